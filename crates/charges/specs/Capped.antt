@@ -1,23 +1,23 @@
--- Numbers that stop at a cap.
+-- Numbers up to a greatest one.
 use mathlib.Core.Bool.{Bool}
 use Prim.Native.Nat.{ℕ, _+_, _≤_, min, max}
 use lib.Dec.{leb}
 use native.Mathlib.Omega.{arith}
 
-pub record Capped (cap : ℕ) : Type 0 where
+pub record Capped (most : ℕ) : Type 0 where
   pub number : ℕ
-  pub within : number ≤ cap
+  pub within : number ≤ most
 
--- n, or the cap where n is above it
-abbrev pub capped : (cap : ℕ) → ℕ → Capped cap
-capped cap n = record { number = min n cap; within = omega arith }
+-- n, or the greatest where n is above it
+abbrev pub capped : (most : ℕ) → ℕ → Capped most
+capped most n = record { number = min n most; within = omega arith }
 
--- a sum that stops at the cap
-abbrev pub add : (cap : ℕ) → Capped cap → Capped cap → Capped cap
-add cap x y = capped cap (x .number + y .number)
+-- a sum that stops at the greatest
+abbrev pub add : (most : ℕ) → Capped most → Capped most → Capped most
+add most x y = capped most (x .number + y .number)
 
-abbrev pub greater : (cap : ℕ) → Capped cap → Capped cap → Capped cap
-greater cap x y = capped cap (max (x .number) (y .number))
+abbrev pub greater : (most : ℕ) → Capped most → Capped most → Capped most
+greater most x y = record { number = max (x .number) (y .number); within = omega arith }
 
-abbrev pub no-more : (cap : ℕ) → Capped cap → Capped cap → Bool
-no-more cap x y = leb (x .number) (y .number)
+abbrev pub no-more : (most : ℕ) → Capped most → Capped most → Bool
+no-more most x y = leb (x .number) (y .number)

@@ -15,7 +15,9 @@ pub struct Ranked {
 impl Ranked {
     /// The charge of so many forbidden pairs and such a soft sum, or the top where `forbidden` is 65,535.
     pub fn new(forbidden: u16, soft: u32) -> Ranked
-        ensures { λ r. ⌜ rank (r .forbidden) (r .soft) ≡ rank forbidden soft ⌝ }
+        ensures value { λ r. ⌜ rank (r .forbidden) (r .soft) ≡ rank forbidden soft ⌝ }
+        ensures pairs { λ r. ⌜ r .forbidden ≡ rank forbidden soft .forbidden ⌝ }
+        ensures sum { λ r. ⌜ r .soft ≡ rank forbidden soft .soft ⌝ }
     {
         Ranked { forbidden, soft: if forbidden == 65535 { 4294967295 } else { soft } }
     }

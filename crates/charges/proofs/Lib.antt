@@ -1,0 +1,2 @@
+pub mod CappedLaws
+pub mod RankedLaws

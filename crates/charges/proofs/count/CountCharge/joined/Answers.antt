@@ -1,0 +1,6 @@
+use native.Mathlib.Omega.{arith}
+use Rattle.charges.proofs.CappedLaws.{same-capped}
+use Rattle.charges.proofs.count.CountCharge.joined.Needs as need
+
+pub returns : need.returns
+returns c = same-capped _ _ (omega arith)

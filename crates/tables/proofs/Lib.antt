@@ -1,0 +1,2 @@
+pub mod JoinSteps
+pub mod Records

@@ -1,0 +1,4 @@
+pub mod Modules
+pub mod Sheet
+pub mod Joins
+pub mod Setups
