@@ -33,8 +33,8 @@ unfolding weight
 at-most-to x y t = ⊎-elim
     (λ l. omega (arith, ltb-true (x .forbidden) (y .forbidden) l))
     (λ both.
-      let parts = and-parts (eqb (x .forbidden) (y .forbidden)) (leb (x .soft) (y .soft)) both in
-      omega (arith, eqb-true (x .forbidden) (y .forbidden) (parts .0), leb-true (x .soft) (y .soft) (parts .1)))
+    let parts = and-parts (eqb (x .forbidden) (y .forbidden)) (leb (x .soft) (y .soft)) both in
+    omega (arith, eqb-true (x .forbidden) (y .forbidden) (parts .0), leb-true (x .soft) (y .soft) (parts .1)))
     (or-cases (ltb (x .forbidden) (y .forbidden)) (eqb (x .forbidden) (y .forbidden) && leb (x .soft) (y .soft)) t)
 
 pub at-most-from : (x y : Rank) → weight x ≤ weight y → rank-at-most x y ≡ true

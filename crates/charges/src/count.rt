@@ -22,7 +22,9 @@ pub impl Charge for Count as CountCharge {
     }
 
     fn joined(self, other: Count) -> Count {
-        Count { number: self.number.saturating_add(other.number) }
+        Count {
+            number: self.number.saturating_add(other.number),
+        }
     }
 
     fn is_at_most(self, other: Count) -> bool {
@@ -30,6 +32,8 @@ pub impl Charge for Count as CountCharge {
     }
 
     fn of_entry(entry: Entry) -> Count {
-        Count { number: if entry.number == 0 { 0 } else { 1 } }
+        Count {
+            number: if entry.number == 0 { 0 } else { 1 },
+        }
     }
 }

@@ -2,11 +2,13 @@
 ghost use mathlib.Core.Path.{_≡_};
 ghost use Prim.Native.Nat.{_≤_, min};
 ghost use Rattle.charges.specs.Kinds.{Kind, Lawful};
+
 pub mod count;
 pub mod entry;
 pub mod ranked;
 pub mod sum;
 pub mod worst;
+
 pub use count::Count;
 pub use entry::Entry;
 pub use ranked::Ranked;
@@ -18,7 +20,9 @@ impl Entry {
     pub fn read(number: u16) -> Entry
         ensures { λ r. ⌜ r .number ≡ min number 1000 ⌝ }
     {
-        Entry { number: number.min(1000) }
+        Entry {
+            number: number.min(1000),
+        }
     }
 
     pub fn number(self) -> u16

@@ -19,7 +19,10 @@ impl Ranked {
         ensures pairs { λ r. ⌜ r .forbidden ≡ rank forbidden soft .forbidden ⌝ }
         ensures sum { λ r. ⌜ r .soft ≡ rank forbidden soft .soft ⌝ }
     {
-        Ranked { forbidden, soft: if forbidden == 65535 { 4294967295 } else { soft } }
+        Ranked {
+            forbidden,
+            soft: if forbidden == 65535 { 4294967295 } else { soft },
+        }
     }
 
     pub fn forbidden(self) -> u16
@@ -31,7 +34,11 @@ impl Ranked {
     pub fn soft(self) -> u32
         ensures { λ r. ⌜ r ≡ rank (self .forbidden) (self .soft) .soft ⌝ }
     {
-        if self.forbidden == 65535 { 4294967295 } else { self.soft }
+        if self.forbidden == 65535 {
+            4294967295
+        } else {
+            self.soft
+        }
     }
 }
 
@@ -47,14 +54,22 @@ pub impl Charge for Ranked as RankedCharge {
     }
 
     fn joined(self, other: Ranked) -> Ranked {
-        Ranked::new(self.forbidden.saturating_add(other.forbidden), self.soft.saturating_add(other.soft))
+        Ranked::new(
+            self.forbidden.saturating_add(other.forbidden),
+            self.soft.saturating_add(other.soft),
+        )
     }
 
     fn is_at_most(self, other: Ranked) -> bool {
-        self.forbidden < other.forbidden || (self.forbidden == other.forbidden && self.soft() <= other.soft())
+        self.forbidden < other.forbidden
+            || (self.forbidden == other.forbidden && self.soft() <= other.soft())
     }
 
     fn of_entry(entry: Entry) -> Ranked {
-        if entry.number == 1000 { Ranked::new(1, 0) } else { Ranked::new(0, u32::from(entry.number)) }
+        if entry.number == 1000 {
+            Ranked::new(1, 0)
+        } else {
+            Ranked::new(0, u32::from(entry.number))
+        }
     }
 }

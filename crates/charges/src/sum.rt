@@ -22,7 +22,9 @@ pub impl Charge for Sum as SumCharge {
     }
 
     fn joined(self, other: Sum) -> Sum {
-        Sum { number: self.number.saturating_add(other.number) }
+        Sum {
+            number: self.number.saturating_add(other.number),
+        }
     }
 
     fn is_at_most(self, other: Sum) -> bool {
@@ -30,6 +32,8 @@ pub impl Charge for Sum as SumCharge {
     }
 
     fn of_entry(entry: Entry) -> Sum {
-        Sum { number: u32::from(entry.number) }
+        Sum {
+            number: u32::from(entry.number),
+        }
     }
 }

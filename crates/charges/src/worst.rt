@@ -22,7 +22,9 @@ pub impl Charge for Worst as WorstCharge {
     }
 
     fn joined(self, other: Worst) -> Worst {
-        Worst { number: self.number.max(other.number) }
+        Worst {
+            number: self.number.max(other.number),
+        }
     }
 
     fn is_at_most(self, other: Worst) -> bool {
@@ -30,6 +32,8 @@ pub impl Charge for Worst as WorstCharge {
     }
 
     fn of_entry(entry: Entry) -> Worst {
-        Worst { number: entry.number }
+        Worst {
+            number: entry.number,
+        }
     }
 }

@@ -24,8 +24,8 @@ module _ (before after : Modules) (i : ℕ) (new : Module) (within : i < length 
 
 pub adds : (before after : Modules) (new : Module) → before .count < length (before .records) → after .records ≡ set (before .records) (before .count) new → after .count ≡ before .count + 1 → new .mask ≡ 2 ^ new .settings - 1 → Adds before after (new .settings)
 adds before after new within written counted all = record {
-    counted = counted;
-    settings = ap (λ (m : Module). m .settings) (written-at before after (before .count) new within written);
-    mask = ap (λ (m : Module). m .mask) (written-at before after (before .count) new within written) ∙ all;
-    others = others-same before after (before .count) new within written;
-  }
+  counted = counted;
+  settings = ap (λ (m : Module). m .settings) (written-at before after (before .count) new within written);
+  mask = ap (λ (m : Module). m .mask) (written-at before after (before .count) new within written) ∙ all;
+  others = others-same before after (before .count) new within written;
+}

@@ -10,7 +10,13 @@ impl Modules {
     pub fn none() -> Modules
         ensures { λ r. ⌜ r .count ≡ 0 ⌝ }
     {
-        Modules { records: [Module { settings: 1, mask: 1 }; 20], count: 0 }
+        Modules {
+            records: [Module {
+                settings: 1,
+                mask: 1,
+            }; 20],
+            count: 0,
+        }
     }
 
     pub fn count(&self) -> usize
