@@ -4,6 +4,9 @@ ghost use Rattle.charges.specs.Ranked.{rank, ranks};
 use crate::Charge;
 use crate::Entry;
 
+// The parts of the top.
+const TOP: (u16, u32) = (65535, 4294967295);
+
 /// The number of forbidden pairs, and then the sum of the other clashes. A charge of 65,535 forbidden pairs is the top,
 /// whatever the sum is, and the sum stops at 4,294,967,295.
 #[derive(Clone, Copy)]
@@ -21,24 +24,21 @@ impl Ranked {
     {
         Ranked {
             forbidden,
-            soft: if forbidden == 65535 { 4294967295 } else { soft },
+            soft: if forbidden == TOP.0 { TOP.1 } else { soft },
         }
     }
 
-    pub fn forbidden(self) -> u16
-        ensures { λ r. ⌜ r ≡ rank (self .forbidden) (self .soft) .forbidden ⌝ }
+    /// The number of forbidden pairs and the soft sum; those of the top are 65,535 and 4,294,967,295.
+    pub fn parts(self) -> (u16, u32)
+        ensures pairs { λ r. ⌜ r .0 ≡ rank (self .forbidden) (self .soft) .forbidden ⌝ }
+        ensures sum { λ r. ⌜ r .1 ≡ rank (self .forbidden) (self .soft) .soft ⌝ }
     {
-        self.forbidden
-    }
-
-    pub fn soft(self) -> u32
-        ensures { λ r. ⌜ r ≡ rank (self .forbidden) (self .soft) .soft ⌝ }
-    {
-        if self.forbidden == 65535 {
-            4294967295
+        let soft = if self.forbidden == TOP.0 {
+            TOP.1
         } else {
             self.soft
-        }
+        };
+        (self.forbidden, soft)
     }
 }
 
@@ -61,8 +61,9 @@ pub impl Charge for Ranked as RankedCharge {
     }
 
     fn is_at_most(self, other: Ranked) -> bool {
-        self.forbidden < other.forbidden
-            || (self.forbidden == other.forbidden && self.soft() <= other.soft())
+        let (forbidden, soft) = self.parts();
+        let (most_forbidden, most_soft) = other.parts();
+        forbidden < most_forbidden || (forbidden == most_forbidden && soft <= most_soft)
     }
 
     fn of_entry(entry: Entry) -> Ranked {

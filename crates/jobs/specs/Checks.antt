@@ -3,10 +3,11 @@ use mathlib.Core.Bool.{Bool, true, not, _&&_, _||_}
 use mathlib.Core.List.{List, [], _∷_}
 use lib.Dec.{leb, ltb, eqb}
 use lib.ListN.{length, getD, set}
-use Prim.Native.Nat.{ℕ, zero, suc, _^_}
+use Prim.Native.Nat.{ℕ, zero, suc, _^_, _<_}
 use Rattle.tables.specs.declared.modules.Modules.{Modules}
 use Rattle.tables.specs.Modules.{settings-of}
 use Rattle.jobs.specs.declared.refusal.Refusal.{Refusal}
+use Rattle.jobs.specs.Refusals.{number-of}
 use Rattle.jobs.specs.declared.refusal.Refusal.the-variants.{TooShort, Full, SettingsOutOfRange, NoModule, NotLower, NoSetting, ClashTooHigh, WrongMask}
 
 -- a sheet has at least 12,160 entries, a row at least 20 bytes
@@ -60,3 +61,17 @@ what-if-checks m sheet row i k =
     ∷ (NoModule, leb (m .count) i)
     ∷ (NoSetting, not (has-all m (set row i k) (m .count)))
     ∷ []
+
+-- the refusals' numbers rise from check to check
+abbrev pub Rises : List (Refusal × Bool) → Type 0
+Rises [] = Unit {0}
+Rises ((r, _) ∷ []) = Unit {0}
+Rises ((r, _) ∷ (s, fits) ∷ checks) = (number-of r < number-of s) × Rises ((s, fits) ∷ checks)
+
+-- each call goes through its checks in the order of their numbers
+pub record In-number-order : Type 0 where
+  pub add : (m : Modules) (sheet : List ℕ) (settings : ℕ) → Rises (add-checks m sheet settings)
+  pub charge : (m : Modules) (sheet : List ℕ) (i k j l clash : ℕ) → Rises (charge-checks m sheet i k j l clash)
+  pub narrow : (m : Modules) (i mask : ℕ) → Rises (narrow-checks m i mask)
+  pub weigh : (m : Modules) (sheet row : List ℕ) → Rises (weigh-checks m sheet row)
+  pub what-if : (m : Modules) (sheet row : List ℕ) (i k : ℕ) → Rises (what-if-checks m sheet row i k)

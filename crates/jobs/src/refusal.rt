@@ -1,5 +1,6 @@
 // Why a call is refused.
 ghost use mathlib.Core.Path.{_≡_};
+ghost use Rattle.jobs.specs.Checks.{In-number-order};
 ghost use Rattle.jobs.specs.Refusals.{number-of};
 
 /// Why a call is refused. Each case has its number; a call answers the lowest that fits.
@@ -24,9 +25,10 @@ pub enum Refusal {
 }
 
 impl Refusal {
-    /// The number of the refusal.
+    /// The number of the refusal. Each call checks for its refusals in the order of these numbers.
     pub fn number(self) -> u8
-        ensures { λ r. ⌜ r ≡ number-of self ⌝ }
+        ensures value { λ r. ⌜ r ≡ number-of self ⌝ }
+        ensures order { λ _. ⌜ In-number-order ⌝ }
     {
         match self {
             Refusal::TooShort => 1,

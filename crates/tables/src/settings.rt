@@ -19,12 +19,6 @@ impl Modules {
         }
     }
 
-    pub fn count(&self) -> usize
-        ensures { λ r. ⌜ r ≡ now (self .entry) .count ⌝ }
-    {
-        self.count
-    }
-
     /// How many settings module `i` has.
     pub fn settings(&self, i: usize) -> u8
         requires { ⌜ i < 20 ⌝ }

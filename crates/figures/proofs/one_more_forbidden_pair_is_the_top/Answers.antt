@@ -11,8 +11,8 @@ pub returns : need.returns
 returns c = record {
   defined = reaches-top;
   value =
-    c .joined .ensures
-    ∙ ap (λ x. add-ranks x (rank (c .new-2 .result .forbidden) (c .new-2 .result .soft))) (c .new .ensures .value)
-    ∙ ap (add-ranks (rank 65534 5)) (c .new-2 .ensures .value)
-    ∙ reaches-top;
+      c .joined .ensures
+      ∙ ap (λ x. add-ranks x (rank (c .new-2 .result .forbidden) (c .new-2 .result .soft))) (c .new .ensures .value)
+      ∙ ap (add-ranks (rank 65534 5)) (c .new-2 .ensures .value)
+      ∙ reaches-top;
 }
