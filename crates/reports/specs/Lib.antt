@@ -1,0 +1,3 @@
+pub mod Figures
+pub mod Performs
+pub mod Sessions
