@@ -1,3 +1,4 @@
 pub mod Figures
 pub mod Performs
 pub mod Sessions
+pub mod Scripts

@@ -2,4 +2,6 @@
 pub mod calling;
 pub mod figured;
 pub mod opened;
+pub mod program;
+pub mod script;
 pub mod session;

@@ -1,7 +1,8 @@
 // The calls of a script, on the job that it has open.
 ghost use mathlib.Core.Path.{_≡_};
+ghost use lib.ListN.{length, replicate};
 ghost use Rattle.reports.specs.Performs.{Performs};
-ghost use Rattle.reports.specs.Sessions.{modules-in, terms-of, Goes-on, Answers};
+ghost use Rattle.reports.specs.Sessions.{modules-in, terms-of, Fresh, Goes-on, On-job, Answers};
 use crate::calling::carry_out;
 use crate::figured::CountFigured;
 use crate::figured::Figured;
@@ -54,6 +55,18 @@ impl<C: Figured> Opened<C> {
 }
 
 impl AnyJob {
+    // A fresh job of a kind.
+    fn open(number: u32, kind: KindName, walks: Walks, bound: BoundName) -> AnyJob
+        ensures { λ r. ⌜ Fresh number kind walks bound r ⌝ }
+    {
+        match kind {
+            KindName::Count => AnyJob::ByCount(Opened::open(number, walks, bound)),
+            KindName::Sum => AnyJob::BySum(Opened::open(number, walks, bound)),
+            KindName::Worst => AnyJob::ByWorst(Opened::open(number, walks, bound)),
+            KindName::Ranked => AnyJob::ByRank(Opened::open(number, walks, bound)),
+        }
+    }
+
     // Carries out a call, whatever the kind.
     fn carry_out(self, sheet: &mut [u16], call: Call) -> (AnyJob, Answer)
         ensures { λ r. ⌜ Goes-on self (now (sheet .entry)) call (r .1) (r .0) (now (sheet .exit)) ⌝ }
@@ -76,5 +89,39 @@ impl AnyJob {
                 (AnyJob::ByRank(job), answer)
             }
         }
+    }
+}
+
+// Zeros all over the sheet.
+fn blank(sheet: &mut [u16])
+    ensures { λ _. ⌜ now (sheet .exit) ≡ replicate (length (now (sheet .entry))) 0 ⌝ }
+{
+    sheet.fill(0);
+}
+
+// A call on what is open.
+fn on_job(job: Option<AnyJob>, sheet: &mut [u16], call: Call) -> (Option<AnyJob>, Answer)
+    ensures { λ r. ⌜ On-job job (now (sheet .entry)) call (r .1) (r .0) (now (sheet .exit)) ⌝ }
+{
+    match job {
+        None => (None, Answer::NotACall),
+        Some(job) => {
+            let (job, answer) = job.carry_out(sheet, call);
+            (Some(job), answer)
+        }
+    }
+}
+
+/// Carries out a call of a script: gives what is open then, and the answer. Open puts a fresh job in the place of what is
+/// open and zeros on the sheet; where nothing is open, no other line is a call.
+pub fn answer(job: Option<AnyJob>, sheet: &mut [u16], call: Call) -> (Option<AnyJob>, Answer)
+    ensures { λ r. ⌜ Answers job (now (sheet .entry)) call (r .1) (r .0) (now (sheet .exit)) ⌝ }
+{
+    match call {
+        Call::Open { number, kind, walks, bound } => {
+            blank(sheet);
+            (Some(AnyJob::open(number, kind, walks, bound)), Answer::Done)
+        }
+        _ => on_job(job, sheet, call),
     }
 }
