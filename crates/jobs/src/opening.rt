@@ -6,19 +6,27 @@ use crate::job::Plain;
 use std::marker::PhantomData;
 use tables::modules::Modules;
 
+fn fresh<C, W>(number: u32, walks: W) -> Job<C, W>
+    ensures number { λ r. ⌜ r .number ≡ number ⌝ }
+    ensures modules { λ r. ⌜ r .modules .count ≡ 0 ⌝ }
+    ensures walks { λ r. ⌜ r .walks ≡ walks ⌝ }
+{
+    Job {
+        number,
+        modules: Modules::none(),
+        walks,
+        kind: PhantomData,
+    }
+}
+
 impl<C, B> Job<C, Plain<B>> {
-    /// A job without modules, for plain walks alone.
+    /// A job without modules, for plain walks alone, with any bound.
     pub fn open_plain(number: u32, bound: B) -> Job<C, Plain<B>>
         ensures number { λ r. ⌜ r .number ≡ number ⌝ }
         ensures modules { λ r. ⌜ r .modules .count ≡ 0 ⌝ }
         ensures bound { λ r. ⌜ r .walks .bound ≡ bound ⌝ }
     {
-        Job {
-            number,
-            modules: Modules::none(),
-            walks: Plain { bound },
-            kind: PhantomData,
-        }
+        fresh(number, Plain { bound })
     }
 }
 
@@ -29,11 +37,6 @@ impl<C, B> Job<C, Both<B>> {
         ensures modules { λ r. ⌜ r .modules .count ≡ 0 ⌝ }
         ensures bound { λ r. ⌜ r .walks .bound ≡ bound ⌝ }
     {
-        Job {
-            number,
-            modules: Modules::none(),
-            walks: Both { bound },
-            kind: PhantomData,
-        }
+        fresh(number, Both { bound })
     }
 }

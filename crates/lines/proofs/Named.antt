@@ -70,19 +70,16 @@ no-what-if ws h (Narrow i m) said = apart refl (said .0)
 no-what-if ws h (Weigh row) said = apart refl (said .0)
 no-what-if ws h (WhatIf i k row) said = h i k row (said .1)
 
-heads : {x y : Word} {xs ys : List Word} → x ∷ xs ≡ y ∷ ys → x ≡ y
-heads e = cc
+-- where a list is cut twice after its first word, the first word and the rest are the same
+pub same-first : {x y : Word} {ws xs ys : List Word} → ws ≡ x ∷ xs → ws ≡ y ∷ ys → x ≡ y
+same-first d e = cc
 
-tails : {x y : Word} {xs ys : List Word} → x ∷ xs ≡ y ∷ ys → xs ≡ ys
-tails e = cc
-
--- where a list is cut twice after its first word, the rest is the same
 pub same-rest : {x y : Word} {ws xs ys : List Word} → ws ≡ x ∷ xs → ws ≡ y ∷ ys → xs ≡ ys
 same-rest d e = cc
 
 -- a bound whose first word is `higher`
 pub no-higher : (ws : List Word) → ((a b : SimpleBound) → ws ≡ bound-word a ∷ bound-word b ∷ [] → ⊥) → (b : BoundName) → (codes "higher" ∷ ws) ≡ bound-words b → ⊥
-no-higher ws h (One Past) e = apart refl (heads e)
-no-higher ws h (One Forward) e = apart refl (heads e)
-no-higher ws h (One Directed) e = apart refl (heads e)
-no-higher ws h (Higher a b) e = h a b (tails e)
+no-higher ws h (One Past) e = apart refl (same-first refl e)
+no-higher ws h (One Forward) e = apart refl (same-first refl e)
+no-higher ws h (One Directed) e = apart refl (same-first refl e)
+no-higher ws h (Higher a b) e = h a b (same-rest refl e)

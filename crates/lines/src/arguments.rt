@@ -15,9 +15,9 @@ use crate::row::read_row;
 use crate::values::FromWord;
 use crate::values::KindNameFromWord;
 use crate::values::SimpleBoundFromWord;
+use crate::values::U8FromWord;
 use crate::values::U16FromWord;
 use crate::values::U32FromWord;
-use crate::values::U8FromWord;
 use crate::values::WalksFromWord;
 use crate::values::take;
 use crate::words::next_word;
@@ -58,13 +58,22 @@ fn read_bound(text: &str) -> Option<BoundName>
     if word == "higher" {
         let (a, rest) = take::<SimpleBound>(rest)?;
         let (b, rest) = take::<SimpleBound>(rest)?;
-        if is_blank(rest) { Some(BoundName::Higher(a, b)) } else { None }
+        if is_blank(rest) {
+            Some(BoundName::Higher(a, b))
+        } else {
+            None
+        }
     } else {
         let a = SimpleBound::from_word(word)?;
-        if is_blank(rest) { Some(BoundName::One(a)) } else { None }
+        if is_blank(rest) {
+            Some(BoundName::One(a))
+        } else {
+            None
+        }
     }
 }
 
+// `open NUMBER KIND WALKS BOUND`, from the text after its first word.
 pub(crate) fn read_open(text: &str) -> Option<Call>
     ensures { λ r. ⌜ Exactly (Says (codes "open" ∷ words-of (now (text .entry)))) r ⌝ }
 {
@@ -73,19 +82,30 @@ pub(crate) fn read_open(text: &str) -> Option<Call>
     let (walks, rest) = take::<Walks>(rest)?;
     let bound = read_bound(rest)?;
     if is_allowed(walks, bound) {
-        Some(Call::Open { number, kind, walks, bound })
+        Some(Call::Open {
+            number,
+            kind,
+            walks,
+            bound,
+        })
     } else {
         None
     }
 }
 
+// `add SETTINGS`, from the text after its first word.
 pub(crate) fn read_add(text: &str) -> Option<Call>
     ensures { λ r. ⌜ Exactly (Says (codes "add" ∷ words-of (now (text .entry)))) r ⌝ }
 {
     let (settings, rest) = take::<u8>(text)?;
-    if is_blank(rest) { Some(Call::Add { settings }) } else { None }
+    if is_blank(rest) {
+        Some(Call::Add { settings })
+    } else {
+        None
+    }
 }
 
+// `charge I K J L CLASH`, from the text after its first word.
 pub(crate) fn read_charge(text: &str) -> Option<Call>
     ensures { λ r. ⌜ Exactly (Says (codes "charge" ∷ words-of (now (text .entry)))) r ⌝ }
 {
@@ -94,17 +114,27 @@ pub(crate) fn read_charge(text: &str) -> Option<Call>
     let (j, rest) = take::<u8>(rest)?;
     let (l, rest) = take::<u8>(rest)?;
     let (clash, rest) = take::<u16>(rest)?;
-    if is_blank(rest) { Some(Call::Charge { i, k, j, l, clash }) } else { None }
+    if is_blank(rest) {
+        Some(Call::Charge { i, k, j, l, clash })
+    } else {
+        None
+    }
 }
 
+// `narrow I MASK`, from the text after its first word.
 pub(crate) fn read_narrow(text: &str) -> Option<Call>
     ensures { λ r. ⌜ Exactly (Says (codes "narrow" ∷ words-of (now (text .entry)))) r ⌝ }
 {
     let (i, rest) = take::<u8>(text)?;
     let (mask, rest) = take::<u8>(rest)?;
-    if is_blank(rest) { Some(Call::Narrow { i, mask }) } else { None }
+    if is_blank(rest) {
+        Some(Call::Narrow { i, mask })
+    } else {
+        None
+    }
 }
 
+// `weigh S0 S1 ..`, from the text after its first word.
 pub(crate) fn read_weigh(text: &str) -> Option<Call>
     ensures { λ r. ⌜ Exactly (Says (codes "weigh" ∷ words-of (now (text .entry)))) r ⌝ }
 {
@@ -112,6 +142,7 @@ pub(crate) fn read_weigh(text: &str) -> Option<Call>
     Some(Call::Weigh { row })
 }
 
+// `what-if I K S0 S1 ..`, from the text after its first word.
 pub(crate) fn read_what_if(text: &str) -> Option<Call>
     ensures { λ r. ⌜ Exactly (Says (codes "what-if" ∷ words-of (now (text .entry)))) r ⌝ }
 {

@@ -21,6 +21,13 @@ pub enum Line {
 }
 
 /// The call that the words of a line say; `None` where they say none.
+///
+/// - `open NUMBER KIND WALKS BOUND`: a kind is `count`, `sum`, `worst` or `ranked`, the walks are `plain` or `both`, and a
+///   bound is `past`, `forward`, `directed`, or `higher` and two of these. With `both`, `past` is no bound, nor a part of one.
+/// - `add SETTINGS`, `charge I K J L CLASH`, `narrow I MASK`
+/// - `weigh S0 S1 ..` and `what-if I K S0 S1 ..`, with at most twenty settings
+///
+/// A number is one digit or more, with no sign; leading zeros are allowed. NUMBER is a `u32`, CLASH a `u16`, and each other a `u8`.
 pub fn read_call(line: &str) -> Option<Call>
     ensures { λ r. ⌜ Exactly (Says (words-of (now (line .entry)))) r ⌝ }
 {

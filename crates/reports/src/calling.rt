@@ -32,9 +32,7 @@ fn done_or_refused(given: Result<(), Refusal>) -> Answer
 
 /// Carries out a call on a job, and gives its answer. Opening is no call on a job.
 pub fn carry_out<C: Figured, W>(job: &mut Job<C, W>, sheet: &mut [u16], call: Call) -> Answer
-    ensures performs {
-        λ r. ⌜ Performs (C·Charge .kind) (λ v. C·Figured .shows (C·Charge .made v)) (now (job .entry) .modules) (now (sheet .entry)) call r (now (job .exit) .modules) (now (sheet .exit)) ⌝
-    }
+    ensures performs { λ r. ⌜ Performs (C·Charge .kind) (λ v. C·Figured .shows (C·Charge .made v)) (now (job .entry) .modules) (now (sheet .entry)) call r (now (job .exit) .modules) (now (sheet .exit)) ⌝ }
     ensures same_number { λ _. ⌜ now (job .exit) .number ≡ now (job .entry) .number ⌝ }
     ensures same_walks { λ _. ⌜ now (job .exit) .walks ≡ now (job .entry) .walks ⌝ }
 {

@@ -46,7 +46,8 @@ pub impl Figured for Worst as WorstFigured {
     ghost shows = { λ s. number-figure (capped 65535 (s .number)) };
 
     fn figure(self) -> Figure {
-        Figure::One(u32::from(self.number))
+        let worst = u32::from(self.number);
+        Figure::One(worst)
     }
 }
 

@@ -7,7 +7,11 @@ use lines::line::Line;
 use lines::line::read_line;
 
 /// Follows a line of a script: gives the job that is open then, and the answer. A blank line and a comment get none.
-pub fn follow(job: Option<AnyJob>, sheet: &mut [u16], line: &str) -> (Option<AnyJob>, Option<Answer>)
+pub fn follow(
+    job: Option<AnyJob>,
+    sheet: &mut [u16],
+    line: &str,
+) -> (Option<AnyJob>, Option<Answer>)
     ensures { λ r. ⌜ Follows job (now (sheet .entry)) (now (line .entry)) (r .1) (r .0) (now (sheet .exit)) ⌝ }
 {
     match read_line(line) {

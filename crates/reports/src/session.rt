@@ -36,9 +36,7 @@ impl<C: Figured> Opened<C> {
 
     // Carries out a call, whatever the walks.
     fn carry_out(self, sheet: &mut [u16], call: Call) -> (Opened<C>, Answer)
-        ensures performs {
-            λ r. ⌜ Performs (C·Charge .kind) (λ v. C·Figured .shows (C·Charge .made v)) (modules-in self) (now (sheet .entry)) call (r .1) (modules-in (r .0)) (now (sheet .exit)) ⌝
-        }
+        ensures performs { λ r. ⌜ Performs (C·Charge .kind) (λ v. C·Figured .shows (C·Charge .made v)) (modules-in self) (now (sheet .entry)) call (r .1) (modules-in (r .0)) (now (sheet .exit)) ⌝ }
         ensures same { λ r. ⌜ terms-of (r .0) ≡ terms-of self ⌝ }
     {
         match self {
@@ -118,7 +116,12 @@ pub fn answer(job: Option<AnyJob>, sheet: &mut [u16], call: Call) -> (Option<Any
     ensures { λ r. ⌜ Answers job (now (sheet .entry)) call (r .1) (r .0) (now (sheet .exit)) ⌝ }
 {
     match call {
-        Call::Open { number, kind, walks, bound } => {
+        Call::Open {
+            number,
+            kind,
+            walks,
+            bound,
+        } => {
             blank(sheet);
             (Some(AnyJob::open(number, kind, walks, bound)), Answer::Done)
         }

@@ -2,6 +2,7 @@ use mathlib.Core.Path.{refl}
 use mathlib.Core.List.{[], _∷_}
 use Rattle.lines.specs.Names.{kind-word, walks-word}
 use Rattle.lines.specs.Calls.{bound-words}
+use Rattle.lines.specs.Words.{words-of}
 use Rattle.lines.proofs.Named.{no-open, same-rest}
 use Rattle.lines.proofs.arguments.read_open.Needs as need
 
@@ -18,4 +19,4 @@ pub returns-in-Break-walks : need.returns-in-Break-walks
 returns-in-Break-walks c =
     let p = c .in-Continue-number .ensures tt .1 in
     let q = c .in-Continue-kind .ensures tt .1 in
-    rw (c .from-residual-in-Break-walks .ensures) (no-open _ (λ n k w b h. c .in-Break-walks .ensures tt (walks-word w) (bound-words b) w (same-rest q (same-rest p (h .1))) refl))
+    rw (c .from-residual-in-Break-walks .ensures) (no-open _ (λ n k w b h. c .in-Break-walks .ensures tt (walks-word w) (bound-words b) w (same-rest {ws = words-of (c .in-Continue-number .rest .now)} q (same-rest p (h .1))) refl))

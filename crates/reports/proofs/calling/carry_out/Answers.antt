@@ -16,7 +16,7 @@ returns-in-Weigh g c =
     let r = c .charge-or-refused .result in
     record {
       performs = subst (λ (call : Call). Performs K (λ v. g .C·Figured .shows (g .C·Charge .made v)) m sheet call r m sheet) (sym (c .in-Weigh .is))
-        (tells-charge (g .C·Charge .means) (g .C·Charge .made) (g .C·Figured .shows) (g .C·Charge·met .stands) (g .C·Figured·met .alike)
+          (tells-charge (g .C·Charge .means) (g .C·Charge .made) (g .C·Figured .shows) (g .C·Charge·met .stands) (g .C·Figured·met .alike)
           (c .weigh .result) (weigh-checks m sheet row) (charge-of K sheet row (m .count)) r _ _ refl refl
           (c .weigh .ensures) (c .charge-or-refused .ensures));
       same-number = refl;
@@ -34,7 +34,7 @@ returns-in-WhatIf g c =
     let r = c .charge-or-refused-in-WhatIf .result in
     record {
       performs = subst (λ (call : Call). Performs K (λ v. g .C·Figured .shows (g .C·Charge .made v)) m sheet call r m sheet) (sym (c .in-WhatIf .is))
-        (tells-charge (g .C·Charge .means) (g .C·Charge .made) (g .C·Figured .shows) (g .C·Charge·met .stands) (g .C·Figured·met .alike)
+          (tells-charge (g .C·Charge .means) (g .C·Charge .made) (g .C·Figured .shows) (g .C·Charge·met .stands) (g .C·Figured·met .alike)
           (c .what-if .result) (what-if-checks m sheet row i k) (charge-of K sheet (set row i k) (m .count)) r _ _ refl refl
           (c .what-if .ensures .decides) (c .charge-or-refused-in-WhatIf .ensures));
       same-number = refl;
