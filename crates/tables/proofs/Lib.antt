@@ -1,2 +1,3 @@
 pub mod JoinSteps
 pub mod Records
+pub mod Masks

@@ -29,10 +29,10 @@ impl Modules {
 
     /// Whether setting `k` of module `i` is allowed.
     pub fn allows(&self, i: usize, k: u8) -> bool
-        requires { ⌜ i < 20 ⌝ ∗ ⌜ k < 8 ⌝ }
+        requires { ⌜ i < 20 ⌝ }
         ensures { λ r. ⌜ r ≡ allows (now (self .entry)) i k ⌝ }
     {
-        (self.records[i].mask >> k) & 1 == 1
+        k < 8 && (self.records[i].mask >> k) & 1 == 1
     }
 
     /// One module more, with all its settings allowed.

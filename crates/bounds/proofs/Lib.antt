@@ -1,0 +1,6 @@
+pub mod Joining
+pub mod Leasts
+pub mod Allowing
+pub mod Answerable
+pub mod Taking
+pub mod Sound

@@ -1,0 +1,4 @@
+pub mod Least
+pub mod Beginnings
+pub mod Floors
+pub mod Tallies

@@ -1,0 +1,5 @@
+// Bounds: floors under the charge of every setup that starts with a beginning.
+pub mod asking;
+pub mod bound;
+mod counting;
+pub mod named;
