@@ -5,14 +5,14 @@ use mathlib.Core.Path.{_≡_}
 use lib.Dec.{leb, ltb}
 use lib.ListN.{getD, length, take}
 use lib.Seq.{getD-take}
-use Prim.Native.Nat.{ℕ, _≤_, _<_}
+use Prim.Native.Nat.{ℕ, _+_, _*_, _≤_, _<_}
 use native.Mathlib.Omega.{arith}
 use Rattle.std.proofs.shelf.Tests.{and-parts, leb-true, ltb-true}
 use Rattle.tables.specs.declared.modules.Modules.{Modules}
 use Rattle.tables.specs.Modules.{allows}
 use Rattle.tables.specs.Sheet.{Whole}
 use Rattle.tables.specs.Setups.{Holds}
-use Rattle.bounds.specs.Beginnings.{allows-all, begins, answerable}
+use Rattle.bounds.specs.Beginnings.{allows-all, begins, answerable, later-setting}
 use Rattle.bounds.proofs.Allowing.{allows-each, allows-few}
 
 pub record Begun (m : Modules) (sheet path : List ℕ) (len room : ℕ) : Type 0 where
@@ -43,3 +43,16 @@ begun-holds m sheet path len room long b = record {
   few = omega (arith, b .within, m .few);
   fit = λ i l. allows-few m i (getD path i 0) (allows-each m path len i l (b .allowed));
 }
+
+-- what a later setting is
+pub later-parts : (m : Modules) (d j k : ℕ) → later-setting m d j k ≡ true → (d ≤ j) × (j < m .count) × (allows m j k ≡ true)
+later-parts m d j k h =
+    let outer = and-parts (leb d j && ltb j (m .count)) (allows m j k) h in
+    let inner = and-parts (leb d j) (ltb j (m .count)) (outer .0) in
+    (leb-true d j (inner .0), ltb-true j (m .count) (inner .1), outer .1)
+
+-- its place in the scratch
+pub setting-within : (m : Modules) (d j k : ℕ) → later-setting m d j k ≡ true → 8 * j + k < 160
+setting-within m d j k h =
+    let parts = later-parts m d j k h in
+    omega (arith, parts .1, m .few, allows-few m j k (parts .2))

@@ -2,3 +2,4 @@ pub mod Least
 pub mod Beginnings
 pub mod Floors
 pub mod Tallies
+pub mod Answers

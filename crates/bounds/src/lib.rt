@@ -3,3 +3,5 @@ pub mod asking;
 pub mod bound;
 mod counting;
 pub mod named;
+pub mod setting;
+mod table;
