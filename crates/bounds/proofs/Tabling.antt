@@ -111,3 +111,18 @@ module _ {C : Type 0} (K : Kind) (L : Lawful K) (means : C → K .V) (m : Module
         subst (λ n. allows m n k ≡ true → means (getD ys (8 * n + k) z) ≡ chosen K m f start d n k) e
         (λ q. row k small q z ∙ ap (K .join others) (rows j (omega arith) to-n k small q z) ∙ ap (λ x. K .join x (f j k)) is) p)
       (cases-lt i j)
+
+-- a row is written into, after the rows of the modules before it
+pub rows-kept : {C V : Type 0} (means : C → V) (passes : ℕ → ℕ → Bool) (value : ℕ → ℕ → V) (d j k : ℕ) (xs : List C) (x : C) → Rows means passes value d j xs → Rows means passes value d j (set xs (8 * j + k) x)
+rows-kept means passes value d j k xs x rows i from below l small p z =
+    let ne : 8 * i + l ≢ 8 * j + k = λ e. omega arith in
+    ap means (getD-set-other xs (8 * j + k) (8 * i + l) x z ne) ∙ rows i from below l small p z
+
+-- a whole row more
+pub rows-and-row : {C V : Type 0} (means : C → V) (passes : ℕ → ℕ → Bool) (value : ℕ → ℕ → V) (d j : ℕ) (xs : List C) → Row means (passes j) (λ z. value j) j 8 xs → Rows means passes value d j xs → Rows means passes value d (j + 1) xs
+rows-and-row means passes value d j xs row rows i from below k small p z = ⊎-elim
+    (λ lower. rows i from lower k small p z)
+    (λ here.
+      let e : j ≡ i = omega arith in
+      subst (λ n. passes n k ≡ true → means (getD xs (8 * n + k) z) ≡ value n k) e (λ q. row k small q z) p)
+    (cases-lt i j)

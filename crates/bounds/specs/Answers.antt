@@ -9,16 +9,11 @@ use Rattle.charges.specs.Kinds.{Kind}
 use Rattle.tables.specs.declared.modules.Modules.{Modules}
 use Rattle.tables.specs.Joins.{joined-from}
 use Rattle.tables.specs.Modules.{allows}
-use Rattle.bounds.specs.Beginnings.{later-setting}
 use Rattle.bounds.specs.Least.{least}
 
 -- xs has at i a value that stands for v
 abbrev pub Has : {C V : Type 0} → (C → V) → List C → ℕ → V → Type 0
 Has {C} means xs i v = (z : C) → means (getD xs i z) ≡ v
-
--- for each allowed setting of each module from d on
-abbrev pub Tabled : {C V : Type 0} → (C → V) → Modules → ℕ → (ℕ → ℕ → V) → List C → Type 0
-Tabled means m d value xs = (j k : ℕ) → later-setting m d j k ≡ true → Has means xs (8 * j + k) (value j k)
 
 -- what stands outside the row of module j, 8j to 8j + 7, is as it was
 abbrev pub Same-but-row : {C : Type 0} → ℕ → List C → List C → Type 0

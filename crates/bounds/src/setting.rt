@@ -1,8 +1,9 @@
 // What a setting bound is.
 ghost use Prim.Native.Nat.{ℕ};
-ghost use Rattle.bounds.specs.Answers.{Tabled};
+ghost use Rattle.bounds.specs.Answers.{Rows};
 ghost use Rattle.bounds.specs.Beginnings.{Beginning, Setup, Starts, answerable, later-setting};
 ghost use Rattle.charges.specs.Kinds.{AtMost};
+ghost use Rattle.tables.specs.Modules.{allows};
 ghost use Rattle.tables.specs.Setups.{charge-of};
 ghost use Rattle.tables.specs.declared.modules.Modules.{Modules};
 ghost use lib.ListN.{getD, length, take};
@@ -30,14 +31,29 @@ pub trait SettingBound<C: Charge>: Bound<C> {
         requires later { ⌜ later-setting (now modules) len j k ≡ true ⌝ }
         ensures { λ r. ⌜ C·Charge .means r ≡ C·Charge .means (answer (now (self .entry)) (now (modules .entry)) (now (sheet .entry)) (take len path) j k) ⌝ }
     {
-        self.prepare(modules, sheet, path, len, scratch);
+        let _ = self.prepare(modules, sheet, path, len, scratch);
         scratch[8 * j + k as usize]
     }
 
-    /// Writes the answer for each allowed setting `k` of each later module `j` to `8j + k` of the scratch.
-    fn prepare(&self, modules: &Modules, sheet: &[u16], path: [u8; 20], len: usize, scratch: &mut [C])
+    /// Writes the answer for each allowed setting `k` of each later module `j` to `8j + k` of the scratch, and gives the
+    /// floor. A bound that has all answers at once writes its own; kept, this one asks `answer_of` for each.
+    fn prepare(&self, modules: &Modules, sheet: &[u16], path: [u8; 20], len: usize, scratch: &mut [C]) -> C
         requires { ⌜ answerable (now modules) (now sheet) path len (length (now scratch)) ≡ true ⌝ }
-        ensures { λ _. ⌜ Tabled (C·Charge .means) (now (modules .entry)) len (λ j k. C·Charge .means (answer (now (self .entry)) (now (modules .entry)) (now (sheet .entry)) (take len path) j k)) (now (scratch .exit)) ⌝ };
+        ensures answers { λ _. ⌜ Rows (C·Charge .means) (allows (now (modules .entry))) (λ j k. C·Charge .means (answer (now (self .entry)) (now (modules .entry)) (now (sheet .entry)) (take len path) j k)) len (now (modules .entry) .count) (now (scratch .exit)) ⌝ }
+        ensures value { λ r. ⌜ C·Charge .means r ≡ C·Charge .means (Self·Bound .floor (now (self .entry)) (now (modules .entry)) (now (sheet .entry)) (take len path)) ⌝ }
+    {
+        let floor = self.floor_of(modules, sheet, path, len, scratch);
+        for j in len..modules.count() {
+            for k in 0..8u8 {
+                if modules.allows(j, k) {
+                    let mut room = [C::zero(); SCRATCH];
+                    let more = self.answer_of(modules, sheet, path, len, j, k, &mut room);
+                    scratch[8 * j + k as usize] = more;
+                }
+            }
+        }
+        floor
+    }
 
     /// The answer for every input: zero where `floor_at` answers zero for want of a beginning or of memory, where `j` is no
     /// later module, and where `k` is not allowed there.
