@@ -24,11 +24,11 @@ module _ {C V : Type 0} (means : C → V) (passes : ℕ → Bool) (F : C → ℕ
   pub row-written : (k : ℕ) (xs : List C) (x : C) → 8 * j + k < length xs → ((z : C) → means x ≡ F z k) → Row k xs → Row (k + 1) (set xs (8 * j + k) x)
   row-written k xs x within is row i l p z = ⊎-elim
       (λ below.
-        let ne : 8 * j + i ≢ 8 * j + k = λ e. omega arith in
-        ap means (getD-set-other xs (8 * j + k) (8 * j + i) x z ne) ∙ row i below p z)
+      let ne : 8 * j + i ≢ 8 * j + k = λ e. omega arith in
+      ap means (getD-set-other xs (8 * j + k) (8 * j + i) x z ne) ∙ row i below p z)
       (λ above.
-        let e : k ≡ i = omega arith in
-        subst (λ n. means (getD (set xs (8 * j + k) x) (8 * j + n) z) ≡ F z n) e (ap means (getD-set-same xs (8 * j + k) x z within) ∙ is z))
+      let e : k ≡ i = omega arith in
+      subst (λ n. means (getD (set xs (8 * j + k) x) (8 * j + n) z) ≡ F z n) e (ap means (getD-set-same xs (8 * j + k) x z within) ∙ is z))
       (cases-lt i k)
 
   pub row-skipped : (k : ℕ) (xs : List C) → passes k ≡ false → Row k xs → Row (k + 1) xs
@@ -58,20 +58,34 @@ module _ {C : Type 0} (K : Kind) (means : C → K .V) (passes : ℕ → ℕ → 
       let ne : 8 * i + k ≢ 160 + j = λ e. omega arith in
       ap means (getD-set-other ys (160 + j) (8 * i + k) x z ne)
       ∙ ⊎-elim
-        (λ lower. ap means (same (8 * i + k) (inl (omega arith)) z) ∙ rows i from lower k small p z)
-        (λ here.
-          let e : j ≡ i = omega arith in
-          subst (λ n. passes n k ≡ true → means (getD ys (8 * n + k) z) ≡ value n k) e (λ q. row k small q z) p)
-        (cases-lt i j)
+      (λ lower. ap means (same (8 * i + k) (inl (omega arith)) z) ∙ rows i from lower k small p z)
+      (λ here.
+      let e : j ≡ i = omega arith in
+      subst (λ n. passes n k ≡ true → means (getD ys (8 * n + k) z) ≡ value n k) e (λ q. row k small q z) p)
+      (cases-lt i j)
 
   pub leasts-more : means x ≡ least K (passes j) (value j) → Leasts K means passes value d j xs → Leasts K means passes value d (j + 1) (set ys (160 + j) x)
   leasts-more is leasts i from below z = ⊎-elim
       (λ lower.
-        let ne : 160 + i ≢ 160 + j = λ e. omega arith in
-        ap means (getD-set-other ys (160 + j) (160 + i) x z ne ∙ same (160 + i) (inr (omega arith)) z) ∙ leasts i from lower z)
+      let ne : 160 + i ≢ 160 + j = λ e. omega arith in
+      ap means (getD-set-other ys (160 + j) (160 + i) x z ne ∙ same (160 + i) (inr (omega arith)) z) ∙ leasts i from lower z)
       (λ here.
-        let e : j ≡ i = omega arith in
-        subst (λ n. means (getD (set ys (160 + j) x) (160 + n) z) ≡ least K (passes n) (value n)) e (ap means (getD-set-same ys (160 + j) x z within) ∙ is))
+      let e : j ≡ i = omega arith in
+      subst (λ n. means (getD (set ys (160 + j) x) (160 + n) z) ≡ least K (passes n) (value n)) e (ap means (getD-set-same ys (160 + j) x z within) ∙ is))
+      (cases-lt i j)
+
+-- the row of module j was changed
+module _ {C V : Type 0} (means : C → V) (passes : ℕ → ℕ → Bool) (j : ℕ) (xs ys : List C) (same : Same-but-row j xs ys) where
+  pub rows-left : (value : ℕ → ℕ → V) (n : ℕ) → Rows means passes value j n xs → Rows means passes value (j + 1) n ys
+  rows-left value n rows i from below k small p z =
+      ap means (same (8 * i + k) (inr (omega arith)) z) ∙ rows i (omega arith) below k small p z
+
+  pub rows-changed : (value : ℕ → ℕ → V) (d : ℕ) → Row means (passes j) (λ z. value j) j 8 ys → Rows means passes value d j xs → Rows means passes value d (j + 1) ys
+  rows-changed value d row rows i from below k small p z = ⊎-elim
+      (λ lower. ap means (same (8 * i + k) (inl (omega arith)) z) ∙ rows i from lower k small p z)
+      (λ here.
+      let e : j ≡ i = omega arith in
+      subst (λ n. passes n k ≡ true → means (getD ys (8 * n + k) z) ≡ value n k) e (λ q. row k small q z) p)
       (cases-lt i j)
 
 -- one module more whose counts became answers
@@ -83,10 +97,6 @@ module _ {C : Type 0} (K : Kind) (L : Lawful K) (means : C → K .V) (m : Module
   pub leasts-kept : Leasts K means (allows m) f d (m .count) xs → Leasts K means (allows m) f d (m .count) ys
   leasts-kept leasts i from below z = ap means (same (160 + i) (inr (omega (arith, m .few))) z) ∙ leasts i from below z
 
-  pub rows-left : Rows means (allows m) f j (m .count) xs → Rows means (allows m) f (j + 1) (m .count) ys
-  rows-left rows i from below k small p z =
-      ap means (same (8 * i + k) (inr (omega arith)) z) ∙ rows i (omega arith) below k small p z
-
   pub others-are : (before others : K .V) (z : C)
       → before ≡ K .join start (joined-from K (λ i. least K (allows m i) (f i)) d j)
       → others ≡ K .join before (joined-from K (λ i. means (getD xs (160 + i) z)) (j + 1) (m .count))
@@ -96,21 +106,15 @@ module _ {C : Type 0} (K : Kind) (L : Lawful K) (means : C → K .V) (m : Module
   others-are before others z is told leasts =
       told ∙ ap (λ x. K .join x (joined-from K (λ i. means (getD xs (160 + i) z)) (j + 1) (m .count))) is
       ∙ ap (K .join (K .join start (joined-from K least-counts d j)))
-        (from-same K L (λ i. means (getD xs (160 + i) z)) least-counts (j + 1) (m .count) (λ i from below. leasts i (omega arith) below z))
+      (from-same K L (λ i. means (getD xs (160 + i) z)) least-counts (j + 1) (m .count) (λ i from below. leasts i (omega arith) below z))
 
-  pub rows-answered : (others : K .V)
+  pub row-answered : (others : K .V)
       → others ≡ K .join (K .join start (joined-from K (λ i. least K (allows m i) (f i)) d j)) (joined-from K (λ i. least K (allows m i) (f i)) (j + 1) (m .count))
       → ((k : ℕ) → k < 8 → allows m j k ≡ true → (z : C) → means (getD ys (8 * j + k) z) ≡ K .join others (means (getD xs (8 * j + k) z)))
       → Rows means (allows m) f j (m .count) xs
-      → Rows means (allows m) (chosen K m f start d) d j xs
-      → Rows means (allows m) (chosen K m f start d) d (j + 1) ys
-  rows-answered others is row rows done i from below k small p z = ⊎-elim
-      (λ lower. ap means (same (8 * i + k) (inl (omega arith)) z) ∙ done i from lower k small p z)
-      (λ here.
-        let e : j ≡ i = omega arith in
-        subst (λ n. allows m n k ≡ true → means (getD ys (8 * n + k) z) ≡ chosen K m f start d n k) e
-        (λ q. row k small q z ∙ ap (K .join others) (rows j (omega arith) to-n k small q z) ∙ ap (λ x. K .join x (f j k)) is) p)
-      (cases-lt i j)
+      → Row means (allows m j) (λ z. chosen K m f start d j) j 8 ys
+  row-answered others is row rows k small p z =
+      row k small p z ∙ ap (K .join others) (rows j (omega arith) to-n k small p z) ∙ ap (λ x. K .join x (f j k)) is
 
 -- a row is written into, after the rows of the modules before it
 pub rows-kept : {C V : Type 0} (means : C → V) (passes : ℕ → ℕ → Bool) (value : ℕ → ℕ → V) (d j k : ℕ) (xs : List C) (x : C) → Rows means passes value d j xs → Rows means passes value d j (set xs (8 * j + k) x)
@@ -123,6 +127,6 @@ pub rows-and-row : {C V : Type 0} (means : C → V) (passes : ℕ → ℕ → Bo
 rows-and-row means passes value d j xs row rows i from below k small p z = ⊎-elim
     (λ lower. rows i from lower k small p z)
     (λ here.
-      let e : j ≡ i = omega arith in
-      subst (λ n. passes n k ≡ true → means (getD xs (8 * n + k) z) ≡ value n k) e (λ q. row k small q z) p)
+    let e : j ≡ i = omega arith in
+    subst (λ n. passes n k ≡ true → means (getD xs (8 * n + k) z) ≡ value n k) e (λ q. row k small q z) p)
     (cases-lt i j)

@@ -3,3 +3,4 @@ pub mod Beginnings
 pub mod Floors
 pub mod Tallies
 pub mod Answers
+pub mod Greater

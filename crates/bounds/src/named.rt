@@ -1,9 +1,11 @@
 // The past, forward and directed bounds.
-ghost use Rattle.bounds.specs.Floors.{past-charge, forward-floor, directed-floor};
+ghost use Rattle.bounds.specs.Floors.{past-charge, forward-floor, forward-with, directed-floor, directed-with};
 use crate::bound::Bound;
 use crate::counting::Tally;
 use crate::counting::floor_by;
 use crate::counting::past;
+use crate::setting::SettingBound;
+use crate::table::prepare_by;
 use charges::Charge;
 use tables::modules::Modules;
 
@@ -61,5 +63,35 @@ pub impl<C: Charge> Bound<C> for Directed as DirectedBound {
         scratch: &mut [C],
     ) -> C {
         floor_by(Tally::Both, modules, sheet, &path, len)
+    }
+}
+
+pub impl<C: Charge> SettingBound<C> for Forward as ForwardSetting {
+    ghost answer = { λ _ m sheet p j k. C·Charge .made (forward-with (C·Charge .kind) m sheet p j k) };
+
+    fn prepare(
+        &self,
+        modules: &Modules,
+        sheet: &[u16],
+        path: [u8; 20],
+        len: usize,
+        scratch: &mut [C],
+    ) -> C {
+        prepare_by(Tally::Forward, modules, sheet, &path, len, scratch)
+    }
+}
+
+pub impl<C: Charge> SettingBound<C> for Directed as DirectedSetting {
+    ghost answer = { λ _ m sheet p j k. C·Charge .made (directed-with (C·Charge .kind) m sheet p j k) };
+
+    fn prepare(
+        &self,
+        modules: &Modules,
+        sheet: &[u16],
+        path: [u8; 20],
+        len: usize,
+        scratch: &mut [C],
+    ) -> C {
+        prepare_by(Tally::Both, modules, sheet, &path, len, scratch)
     }
 }

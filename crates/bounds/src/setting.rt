@@ -26,7 +26,16 @@ pub trait SettingBound<C: Charge>: Bound<C> {
     law lawful_with: { (b : Self) (m : Modules) (sheet p s : List ℕ) (j k : ℕ) → Beginning m p → Starts p s → Setup m s → getD s j 0 ≡ k → AtMost (C·Charge .kind) (C·Charge .means (answer b m sheet p j k)) (charge-of (C·Charge .kind) sheet s (m .count)) };
 
     /// The answer for setting `k` of the later module `j`. A setting bound gives this or `prepare`, or both.
-    fn answer_of(&self, modules: &Modules, sheet: &[u16], path: [u8; 20], len: usize, j: usize, k: u8, scratch: &mut [C]) -> C
+    fn answer_of(
+        &self,
+        modules: &Modules,
+        sheet: &[u16],
+        path: [u8; 20],
+        len: usize,
+        j: usize,
+        k: u8,
+        scratch: &mut [C],
+    ) -> C
         requires begun { ⌜ answerable (now modules) (now sheet) path len (length (now scratch)) ≡ true ⌝ }
         requires later { ⌜ later-setting (now modules) len j k ≡ true ⌝ }
         ensures { λ r. ⌜ C·Charge .means r ≡ C·Charge .means (answer (now (self .entry)) (now (modules .entry)) (now (sheet .entry)) (take len path) j k) ⌝ }
@@ -37,7 +46,14 @@ pub trait SettingBound<C: Charge>: Bound<C> {
 
     /// Writes the answer for each allowed setting `k` of each later module `j` to `8j + k` of the scratch, and gives the
     /// floor. A bound that has all answers at once writes its own; kept, this one asks `answer_of` for each.
-    fn prepare(&self, modules: &Modules, sheet: &[u16], path: [u8; 20], len: usize, scratch: &mut [C]) -> C
+    fn prepare(
+        &self,
+        modules: &Modules,
+        sheet: &[u16],
+        path: [u8; 20],
+        len: usize,
+        scratch: &mut [C],
+    ) -> C
         requires { ⌜ answerable (now modules) (now sheet) path len (length (now scratch)) ≡ true ⌝ }
         ensures answers { λ _. ⌜ Rows (C·Charge .means) (allows (now (modules .entry))) (λ j k. C·Charge .means (answer (now (self .entry)) (now (modules .entry)) (now (sheet .entry)) (take len path) j k)) len (now (modules .entry) .count) (now (scratch .exit)) ⌝ }
         ensures value { λ r. ⌜ C·Charge .means r ≡ C·Charge .means (Self·Bound .floor (now (self .entry)) (now (modules .entry)) (now (sheet .entry)) (take len path)) ⌝ }
@@ -57,14 +73,23 @@ pub trait SettingBound<C: Charge>: Bound<C> {
 
     /// The answer for every input: zero where `floor_at` answers zero for want of a beginning or of memory, where `j` is no
     /// later module, and where `k` is not allowed there.
-    fn floor_with(&self, modules: &Modules, sheet: &[u16], path: [u8; 20], len: usize, j: usize, k: u8, scratch: &mut [C]) -> C
-        ensures {
-            λ r. ⌜ C·Charge .means r ≡ cond (answerable (now (modules .entry)) (now (sheet .entry)) path len (length (now (scratch .entry))) && later-setting (now (modules .entry)) len j k)
-                (C·Charge .means (answer (now (self .entry)) (now (modules .entry)) (now (sheet .entry)) (take len path) j k))
-                (C·Charge .kind .zero) ⌝
-        }
+    fn floor_with(
+        &self,
+        modules: &Modules,
+        sheet: &[u16],
+        path: [u8; 20],
+        len: usize,
+        j: usize,
+        k: u8,
+        scratch: &mut [C],
+    ) -> C
+        ensures { λ r. ⌜ C·Charge .means r ≡ cond (answerable (now (modules .entry)) (now (sheet .entry)) path len (length (now (scratch .entry))) && later-setting (now (modules .entry)) len j k)
+            (C·Charge .means (answer (now (self .entry)) (now (modules .entry)) (now (sheet .entry)) (take len path) j k))
+            (C·Charge .kind .zero) ⌝ }
     {
-        if can_answer(modules, sheet, path, len, scratch.len()) && is_later_setting(modules, len, j, k) {
+        if can_answer(modules, sheet, path, len, scratch.len())
+            && is_later_setting(modules, len, j, k)
+        {
             self.answer_of(modules, sheet, path, len, j, k, scratch)
         } else {
             C::zero()

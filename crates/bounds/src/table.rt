@@ -20,7 +20,15 @@ use charges::Charge;
 use tables::modules::Modules;
 
 // Writes the count of each allowed setting of module `j`; gives the least.
-fn write_counts<C: Charge>(tally: Tally, modules: &Modules, sheet: &[u16], path: &[u8], d: usize, j: usize, scratch: &mut [C]) -> C
+fn write_counts<C: Charge>(
+    tally: Tally,
+    modules: &Modules,
+    sheet: &[u16],
+    path: &[u8],
+    d: usize,
+    j: usize,
+    scratch: &mut [C],
+) -> C
     requires held { ⌜ Holds (now sheet) (now path) d ⌝ }
     requires later { ⌜ d ≤ j ⌝ ∗ ⌜ j < now modules .count ⌝ }
     requires room { ⌜ 192 ≤ length (now scratch) ⌝ }
@@ -67,7 +75,14 @@ fn join_leasts<C: Charge>(start: C, scratch: &[C], from: usize, to: usize) -> C
 }
 
 // Writes the counts and the least of each later module.
-fn write_table<C: Charge>(tally: Tally, modules: &Modules, sheet: &[u16], path: &[u8], d: usize, scratch: &mut [C])
+fn write_table<C: Charge>(
+    tally: Tally,
+    modules: &Modules,
+    sheet: &[u16],
+    path: &[u8],
+    d: usize,
+    scratch: &mut [C],
+)
     requires held { ⌜ Holds (now sheet) (now path) d ⌝ }
     requires within { ⌜ d ≤ now modules .count ⌝ }
     requires room { ⌜ 192 ≤ length (now scratch) ⌝ }
@@ -97,7 +112,14 @@ fn write_answers<C: Charge>(modules: &Modules, start: C, d: usize, scratch: &mut
 }
 
 // Writes the answer for each allowed setting of each later module; gives the floor.
-pub(crate) fn prepare_by<C: Charge>(tally: Tally, modules: &Modules, sheet: &[u16], path: &[u8], d: usize, scratch: &mut [C]) -> C
+pub(crate) fn prepare_by<C: Charge>(
+    tally: Tally,
+    modules: &Modules,
+    sheet: &[u16],
+    path: &[u8],
+    d: usize,
+    scratch: &mut [C],
+) -> C
     requires held { ⌜ Holds (now sheet) (now path) d ⌝ }
     requires within { ⌜ d ≤ now modules .count ⌝ }
     requires room { ⌜ 192 ≤ length (now scratch) ⌝ }

@@ -25,17 +25,20 @@ loop-k-again g c =
     let small : k < 8 = omega arith in
     let within : 8 * j + k < length xs = omega (arith, inv .0, m .few) in
     elim (c .if-allows .came) [
-      then-allows w ↦
-        let x = w .joined .result in
-        let was : (z : C) → w .index-scratch-at .result ≡ getD before (8 * j + k) z =
-          λ z. getD-read xs (8 * j + k) (w .index-scratch-at .result) within (w .index-scratch-at .is) z ∙ inv .2 k (omega arith) z in
-        (ap length (w .scratch-is) ∙ length-set xs (8 * j + k) x ∙ inv .0,
-          subst (Row means passes F j (k + 1)) (sym (w .scratch-is))
-            (row-written means passes F j k xs x within (λ z. w .joined .ensures ∙ ap (λ y. K .join (means (c .args .charge)) (means y)) (was z)) (inv .1)),
-          λ i h z. ap (λ ys. getD ys (8 * j + i) z) (w .scratch-is) ∙ rest-written j k before xs x (inv .2) i h z,
-          subst (Same-but-row j before) (sym (w .scratch-is)) (same-written j k before xs x small (inv .3)))
-    | else-allows w ↦
-        (ap length (w .scratch-is) ∙ inv .0,
-          subst (Row means passes F j (k + 1)) (sym (w .scratch-is)) (row-skipped means passes F j k xs (sym (w .if-allows .ensures tt)) (inv .1)),
-          λ i h z. ap (λ ys. getD ys (8 * j + i) z) (w .scratch-is) ∙ inv .2 i (omega arith) z,
-          subst (Same-but-row j before) (sym (w .scratch-is)) (inv .3)) ]
+      | then-allows w ↦
+          let x = w .joined .result in
+          let was : (z : C) → w .index-scratch-at .result ≡ getD before (8 * j + k) z =
+          λ z. getD-read xs (8 * j + k) (w .index-scratch-at .result) within (w .index-scratch-at .is) z ∙ inv .2 k (omega arith) z in (
+            ap length (w .scratch-is) ∙ length-set xs (8 * j + k) x ∙ inv .0,
+            subst (Row means passes F j (k + 1)) (sym (w .scratch-is))
+                (row-written means passes F j k xs x within (λ z. w .joined .ensures ∙ ap (λ y. K .join (means (c .args .charge)) (means y)) (was z)) (inv .1)),
+            λ i h z. ap (λ ys. getD ys (8 * j + i) z) (w .scratch-is) ∙ rest-written j k before xs x (inv .2) i h z,
+            subst (Same-but-row j before) (sym (w .scratch-is)) (same-written j k before xs x small (inv .3)),
+          )
+      | else-allows w ↦ (
+        ap length (w .scratch-is) ∙ inv .0,
+        subst (Row means passes F j (k + 1)) (sym (w .scratch-is)) (row-skipped means passes F j k xs (sym (w .if-allows .ensures tt)) (inv .1)),
+        λ i h z. ap (λ ys. getD ys (8 * j + i) z) (w .scratch-is) ∙ inv .2 i (omega arith) z,
+        subst (Same-but-row j before) (sym (w .scratch-is)) (inv .3),
+      )
+    ]

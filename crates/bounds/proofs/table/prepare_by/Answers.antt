@@ -27,11 +27,11 @@ returns g c =
     let told = c .write-answers .ensures f (c .write-table .ensures .counts) (c .write-table .ensures .leasts) in
     record {
       answers = λ j from below k small allowed z.
-        told .answers j from below k small allowed z
-        ∙ ap (λ x. chosen K m f x d j k) (c .past .ensures)
-        ∙ floor-with-is K L m sheet p f j k d long from below small;
+          told .answers j from below k small allowed z
+          ∙ ap (λ x. chosen K m f x d j k) (c .past .ensures)
+          ∙ floor-with-is K L m sheet p f j k d long from below small;
       value =
-        told .value
-        ∙ ap (λ x. K .join x (joined-from K mins d (m .count))) (c .past .ensures)
-        ∙ ap (λ e. K .join past (joined-from K mins e (m .count))) (sym long);
+          told .value
+          ∙ ap (λ x. K .join x (joined-from K mins d (m .count))) (c .past .ensures)
+          ∙ ap (λ e. K .join past (joined-from K mins e (m .count))) (sym long);
     }

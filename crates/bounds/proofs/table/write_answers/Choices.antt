@@ -15,7 +15,7 @@ Inv-loop-j g l =
     let start = means (l .entry .before) in
     (length (l .scratch) ≡ length (l .entry .scratch))
     × ((f : ℕ → ℕ → K .V) → Rows means (allows m) f (l .d) (m .count) (l .entry .scratch) → Leasts K means (allows m) f (l .d) (m .count) (l .entry .scratch)
-      → (means (l .before) ≡ K .join start (joined-from K (λ i. least K (allows m i) (f i)) (l .d) (l .j)))
-      × Rows means (allows m) (chosen K m f start (l .d)) (l .d) (l .j) (l .scratch)
-      × Rows means (allows m) f (l .j) (m .count) (l .scratch)
-      × Leasts K means (allows m) f (l .d) (m .count) (l .scratch))
+    → (means (l .before) ≡ K .join start (joined-from K (λ i. least K (allows m i) (f i)) (l .d) (l .j)))
+    × Rows means (allows m) (chosen K m f start (l .d)) (l .d) (l .j) (l .scratch)
+    × Rows means (allows m) f (l .j) (m .count) (l .scratch)
+    × Leasts K means (allows m) f (l .d) (m .count) (l .scratch))

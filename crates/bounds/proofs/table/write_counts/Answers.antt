@@ -31,16 +31,19 @@ loop-k-again g c =
     let small : k < 8 = omega arith in
     let within : 8 * j + k < length xs = omega (arith, inv .0, m .few) in
     elim (c .if-allows .came) [
-      then-allows w ↦
-        let x = w .count-more .result in
-        let more = least-takes K passes f k (sym (w .if-allows .ensures tt)) in
-        (ap length (w .scratch-is) ∙ length-set xs (8 * j + k) x ∙ inv .0,
-          subst (Row means passes (λ z. f) j (k + 1)) (sym (w .scratch-is)) (row-written means passes (λ z. f) j k xs x within (λ z. w .count-more .ensures) (inv .1)),
-          subst (Same-but-row j before) (sym (w .scratch-is)) (same-written j k before xs x small (inv .2)),
-          cc)
-    | else-allows w ↦
-        let more = least-skips K passes f k (sym (w .if-allows .ensures tt)) in
-        (ap length (w .scratch-is) ∙ inv .0,
-          subst (Row means passes (λ z. f) j (k + 1)) (sym (w .scratch-is)) (row-skipped means passes (λ z. f) j k xs (sym (w .if-allows .ensures tt)) (inv .1)),
-          subst (Same-but-row j before) (sym (w .scratch-is)) (inv .2),
-          cc) ]
+      | then-allows w ↦
+          let x = w .count-more .result in
+          let more = least-takes K passes f k (sym (w .if-allows .ensures tt)) in (
+            ap length (w .scratch-is) ∙ length-set xs (8 * j + k) x ∙ inv .0,
+            subst (Row means passes (λ z. f) j (k + 1)) (sym (w .scratch-is)) (row-written means passes (λ z. f) j k xs x within (λ z. w .count-more .ensures) (inv .1)),
+            subst (Same-but-row j before) (sym (w .scratch-is)) (same-written j k before xs x small (inv .2)),
+            cc,
+          )
+      | else-allows w ↦
+          let more = least-skips K passes f k (sym (w .if-allows .ensures tt)) in (
+            ap length (w .scratch-is) ∙ inv .0,
+            subst (Row means passes (λ z. f) j (k + 1)) (sym (w .scratch-is)) (row-skipped means passes (λ z. f) j k xs (sym (w .if-allows .ensures tt)) (inv .1)),
+            subst (Same-but-row j before) (sym (w .scratch-is)) (inv .2),
+            cc,
+          )
+    ]

@@ -22,7 +22,8 @@ loop-j-again g c =
     let same-length : length ys ≡ length (c .args .scratch .now) = omega arith in
     let few : j < 20 = omega (arith, m .few) in
     let within : 160 + j < length ys = omega arith in
-    let told = c .write-counts-least .ensures in
-    (length-set ys (160 + j) x ∙ same-length,
+    let told = c .write-counts-least .ensures in (
+      length-set ys (160 + j) x ∙ same-length,
       rows-more K means passes f d j few xs ys x (told .others) within (told .counts) (c .loop-j .inv .1),
-      leasts-more K means passes f d j few xs ys x (told .others) within (told .value) (c .loop-j .inv .2))
+      leasts-more K means passes f d j few xs ys x (told .others) within (told .value) (c .loop-j .inv .2),
+    )

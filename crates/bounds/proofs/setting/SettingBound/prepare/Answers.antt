@@ -31,17 +31,20 @@ loop-k-again g c =
     let inv = c .loop-k .inv in
     let within : 8 * j + k < length xs = omega (arith, inv .0, m .few) in
     elim (c .if-allows .came) [
-      then-allows w ↦
-        let x = w .answer-of-more .result in
-        (subst (λ ys. 192 ≤ length ys) (sym (w .scratch-is)) (omega (arith, length-set xs (8 * j + k) x, inv .0)),
-          subst (Rows means (allows m) value len j) (sym (w .scratch-is)) (rows-kept means (allows m) value len j k xs x (inv .1)),
-          subst (Row means (allows m j) (λ z. value j) j (k + 1)) (sym (w .scratch-is))
-            (row-written means (allows m j) (λ z. value j) j k xs x within (λ z. w .answer-of-more .ensures) (inv .2)))
-    | else-allows w ↦
-        (subst (λ ys. 192 ≤ length ys) (sym (w .scratch-is)) (inv .0),
-          subst (Rows means (allows m) value len j) (sym (w .scratch-is)) (inv .1),
-          subst (Row means (allows m j) (λ z. value j) j (k + 1)) (sym (w .scratch-is))
-            (row-skipped means (allows m j) (λ z. value j) j k xs (sym (w .if-allows .ensures tt)) (inv .2))) ]
+      | then-allows w ↦
+          let x = w .answer-of-more .result in (
+            subst (λ ys. 192 ≤ length ys) (sym (w .scratch-is)) (omega (arith, length-set xs (8 * j + k) x, inv .0)),
+            subst (Rows means (allows m) value len j) (sym (w .scratch-is)) (rows-kept means (allows m) value len j k xs x (inv .1)),
+            subst (Row means (allows m j) (λ z. value j) j (k + 1)) (sym (w .scratch-is))
+                (row-written means (allows m j) (λ z. value j) j k xs x within (λ z. w .answer-of-more .ensures) (inv .2)),
+          )
+      | else-allows w ↦ (
+        subst (λ ys. 192 ≤ length ys) (sym (w .scratch-is)) (inv .0),
+        subst (Rows means (allows m) value len j) (sym (w .scratch-is)) (inv .1),
+        subst (Row means (allows m j) (λ z. value j) j (k + 1)) (sym (w .scratch-is))
+            (row-skipped means (allows m j) (λ z. value j) j k xs (sym (w .if-allows .ensures tt)) (inv .2)),
+      )
+    ]
 
 pub loop-j-again : need.loop-j-again
 loop-j-again g c =
@@ -52,6 +55,7 @@ loop-j-again g c =
     let j = c .loop-j .j in
     let value : ℕ → ℕ → V = λ i l. means (g .Self·SettingBound .answer (c .args .self .now) m (c .args .sheet .now) (take len (c .args .path)) i l) in
     let inv = c .loop-k .inv in
-    let whole : c .loop-k .k ≡ 8 = omega arith in
-    (inv .0,
-      rows-and-row means (allows m) value len j (c .loop-k .scratch) (subst (λ n. Row means (allows m j) (λ z. value j) j n (c .loop-k .scratch)) whole (inv .2)) (inv .1))
+    let whole : c .loop-k .k ≡ 8 = omega arith in (
+      inv .0,
+      rows-and-row means (allows m) value len j (c .loop-k .scratch) (subst (λ n. Row means (allows m j) (λ z. value j) j n (c .loop-k .scratch)) whole (inv .2)) (inv .1),
+    )
