@@ -1,6 +1,8 @@
 // Tests of the calls on a job: what is taken, each refusal, and which of two that fit is answered.
 #[cfg(test)]
 mod tests {
+    use bounds::named::Past;
+    use bounds::named::PastBound;
     use charges::Count;
     use charges::count::CountCharge;
     use jobs::job::Job;
@@ -9,7 +11,7 @@ mod tests {
     use std::test::*;
 
     // A job that counts clashes.
-    type Counted = Job<Count, Plain<()>>;
+    type Counted = Job<Count, Plain<Past>>;
 
     // 0 where a call was taken, else the number of its refusal.
     fn refused<X: Drop>(answer: Result<X, Refusal>) -> u8 {
@@ -21,7 +23,7 @@ mod tests {
 
     // Three modules, of 2, 8 and 3 settings.
     fn three_modules(sheet: &mut [u16]) -> Counted {
-        let mut job: Counted = Job::open_plain(7, ());
+        let mut job: Counted = Job::open_plain(7, Past {});
         for settings in [2u8, 8, 3] {
             let _ = job.add(sheet, settings);
         }
@@ -50,7 +52,7 @@ mod tests {
     #[test]
     fn add_clears_its_entries_alone() -> Result<(), Fail> {
         let mut sheet = [9u16; 12161];
-        let mut job: Counted = Job::open_plain(7, ());
+        let mut job: Counted = Job::open_plain(7, Past {});
         check_eq(refused(job.add(&mut sheet, 1)), 0)?;
         check_eq(sheet[0], 9)?;
         check_eq(refused(job.add(&mut sheet, 1)), 0)?;

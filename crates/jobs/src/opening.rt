@@ -3,6 +3,9 @@ ghost use mathlib.Core.Path.{_≡_};
 use crate::job::Both;
 use crate::job::Job;
 use crate::job::Plain;
+use bounds::bound::Bound;
+use bounds::setting::SettingBound;
+use charges::Charge;
 use std::marker::PhantomData;
 use tables::modules::Modules;
 
@@ -19,7 +22,7 @@ fn fresh<C, W>(number: u32, walks: W) -> Job<C, W>
     }
 }
 
-impl<C, B> Job<C, Plain<B>> {
+impl<C: Charge, B: Bound<C>> Job<C, Plain<B>> {
     /// A job without modules, for plain walks alone, with any bound.
     pub fn open_plain(number: u32, bound: B) -> Job<C, Plain<B>>
         ensures number { λ r. ⌜ r .number ≡ number ⌝ }
@@ -30,8 +33,8 @@ impl<C, B> Job<C, Plain<B>> {
     }
 }
 
-impl<C, B> Job<C, Both<B>> {
-    /// A job without modules, for plain walks and walks that look ahead.
+impl<C: Charge, B: SettingBound<C>> Job<C, Both<B>> {
+    /// A job without modules, for plain walks and walks that look ahead, with a setting bound.
     pub fn open_both(number: u32, bound: B) -> Job<C, Both<B>>
         ensures number { λ r. ⌜ r .number ≡ number ⌝ }
         ensures modules { λ r. ⌜ r .modules .count ≡ 0 ⌝ }

@@ -12,7 +12,7 @@ use lines::line::read_call;
 use lines::line::read_line;
 use std::test::*;
 
-const CALLS: [&str; 16] = [
+const CALLS: [&str; 22] = [
     "open 7 count plain past",
     "open 4294967295 sum both forward",
     "open 0 worst both directed",
@@ -29,9 +29,15 @@ const CALLS: [&str; 16] = [
     "weigh 1 2 3 4 5 6 7 8 9 10 11 12 13 14 15 16 17 18 19 20",
     "what-if 1 2",
     "what-if 1 2 255 0 9",
+    "floor",
+    "floor 255 0 09",
+    "floor 1 2 3 4 5 6 7 8 9 10 11 12 13 14 15 16 17 18 19 20",
+    "floor-with 1 2",
+    "floor-with 255 0 255 0 9",
+    "floor-with 1 2 1 2 3 4 5 6 7 8 9 10 11 12 13 14 15 16 17 18 19 20",
 ];
 
-const NO_CALLS: [&str; 24] = [
+const NO_CALLS: [&str; 34] = [
     "open 4294967296 count plain past",
     "open 7 counts plain past",
     "open 7 count neither past",
@@ -55,6 +61,16 @@ const NO_CALLS: [&str; 24] = [
     "narrow 1 2 3",
     "weigh 1 2 3 4 5 6 7 8 9 10 11 12 13 14 15 16 17 18 19 20 21",
     "what-if 1",
+    "floor 1 2 3 4 5 6 7 8 9 10 11 12 13 14 15 16 17 18 19 20 21",
+    "floor 256",
+    "floor 1 2x",
+    "floor-with",
+    "floor-with 1",
+    "floor-with 256 2",
+    "floor-with 1 256",
+    "floor-with 1 2 256",
+    "floor-with 1 2 1 2 3 4 5 6 7 8 9 10 11 12 13 14 15 16 17 18 19 20 21",
+    "floor-without 1 2",
     "close",
 ];
 
@@ -80,6 +96,41 @@ fn row_of(line: &str) -> Option<[u8; 20]> {
         Some(Call::WhatIf { i: 1, k: 2, row }) => Some(row),
         _ => None,
     }
+}
+
+fn path_of(line: &str) -> Option<([u8; 20], u8)> {
+    match read_call(line) {
+        Some(Call::Floor { path, len }) => Some((path, len)),
+        Some(
+            Call::FloorWith {
+                j: 1,
+                k: 2,
+                path,
+                len,
+            },
+        ) => Some((path, len)),
+        _ => None,
+    }
+}
+
+#[test]
+fn paths_have_their_length() -> Result<(), Fail> {
+    let (path, len) = path_of("floor").ok_or("no path")?;
+    check(len == 0 && path[0] == 0 && path[19] == 0)?;
+    let (path, len) = path_of("floor 7 8 0").ok_or("no path")?;
+    check(len == 3 && path[0] == 7 && path[1] == 8 && path[2] == 0 && path[19] == 0)?;
+    let (path, len) = path_of("floor 1 2 3 4 5 6 7 8 9 10 11 12 13 14 15 16 17 18 19 20").ok_or(
+        "no path",
+    )?;
+    check(len == 20 && path[0] == 1 && path[19] == 20)?;
+    let (path, len) = path_of("floor-with 1 2").ok_or("no path")?;
+    check(len == 0 && path[0] == 0 && path[19] == 0)?;
+    let (path, len) = path_of("floor-with 1 2 9").ok_or("no path")?;
+    check(len == 1 && path[0] == 9 && path[1] == 0 && path[19] == 0)?;
+    let (path, len) = path_of(
+        "floor-with 1 2 1 2 3 4 5 6 7 8 9 10 11 12 13 14 15 16 17 18 19 20",
+    ).ok_or("no path")?;
+    check(len == 20 && path[0] == 1 && path[19] == 20)
 }
 
 #[test]

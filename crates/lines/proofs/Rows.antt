@@ -14,6 +14,7 @@ use Rattle.lines.specs.Calls.{Fills, Row}
 -- the first n words of ws are in the row, the others are rest, and the row goes on with zeros
 pub record Sofar (ws rest : List Word) (row : List ℕ) (n : ℕ) : Type 0 where
   pub few : n ≤ 20
+  pub count : length ws ≡ n + length rest
   pub long : length row ≡ 20
   pub zeros : Fills [] (drop n row)
   pub front : (tail : List ℕ) → Fills rest tail → Fills ws (take n row ++ tail)
@@ -24,7 +25,7 @@ no-words zero = tt
 no-words (suc m) = (refl, no-words m)
 
 pub start : (ws : List Word) → Sofar ws ws (replicate 20 0) 0
-start ws = record { few = omega arith; long = refl; zeros = no-words 20; front = λ tail h. h; back = λ r h. h }
+start ws = record { few = omega arith; count = omega arith; long = refl; zeros = no-words 20; front = λ tail h. h; back = λ r h. h }
 
 module _ {all rest : List Word} {w : Word} {more : List Word} {row : List ℕ} {n : ℕ} (old : Sofar all rest row n) (next : rest ≡ w ∷ more) where
   left : (r : List ℕ) → Fills all r → Fills (w ∷ more) (drop n r)
@@ -46,11 +47,15 @@ module _ {all rest : List Word} {w : Word} {more : List Word} {row : List ℕ} {
       let inside : n < length row = omega (arith, old .long) in
       record {
         few = omega arith;
+        count = omega (arith, old .count, ap length next);
         long = length-set row n x ∙ old .long;
         zeros = subst (Fills []) (sym (drop-set-lt (n + 1) row n x (omega arith))) (subst (Fills []) (drop-more row n 0 inside) (old .zeros) .1);
         front = λ tail h. subst (Fills all) (sym (ap (λ l. l ++ tail) (take-more-set row n x inside) ∙ append-assoc (take n row) (x ∷ []) tail)) (old .front (x ∷ tail) (subst (λ l. Fills l (x ∷ tail)) (sym next) (said, h)));
         back = λ r h. ⊎-elim (λ within. split r h within .1) (λ past. absurd (subst (Fills (w ∷ more)) (drop-all n r past) (left r h))) (cases-lt n (length r));
       }
 
-pub all-read : {all rest : List Word} {row : List ℕ} {n : ℕ} → Sofar all rest row n → rest ≡ [] → Row all row
-all-read {all} {rest} {row} {n} h none = (h .long, subst (Fills all) (take-append-drop n row) (h .front (drop n row) (subst (λ l. Fills l (drop n row)) (sym none) (h .zeros))))
+pub all-read : {all rest : List Word} {row : List ℕ} {n : ℕ} → Sofar all rest row n → rest ≡ [] → Row all row × (length all ≡ n)
+all-read {all} {rest} {row} {n} h none = (
+  (h .long, subst (Fills all) (take-append-drop n row) (h .front (drop n row) (subst (λ l. Fills l (drop n row)) (sym none) (h .zeros)))),
+  omega (arith, h .count, ap length none),
+)

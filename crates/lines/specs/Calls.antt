@@ -15,7 +15,7 @@ use Rattle.lines.specs.declared.call.SimpleBound.the-variants.{Past, Forward, 
 use Rattle.lines.specs.declared.call.BoundName.{BoundName}
 use Rattle.lines.specs.declared.call.BoundName.the-variants.{One, Higher}
 use Rattle.lines.specs.declared.call.Call.{Call}
-use Rattle.lines.specs.declared.call.Call.the-variants.{Open, Add, Charge, Narrow, Weigh, WhatIf}
+use Rattle.lines.specs.declared.call.Call.the-variants.{Open, Add, Charge, Narrow, Weigh, WhatIf, Floor, FloorWith}
 
 -- the words for each bound
 abbrev pub bound-words : BoundName → List Word
@@ -57,6 +57,8 @@ name (Charge i k j l e) = codes "charge"
 name (Narrow i m) = codes "narrow"
 name (Weigh row) = codes "weigh"
 name (WhatIf i k row) = codes "what-if"
+name (Floor path len) = codes "floor"
+name (FloorWith j k path len) = codes "floor-with"
 
 -- the words after the first say the arguments of the call
 abbrev pub Args : List Word → Call → Type 0
@@ -66,6 +68,8 @@ Args ws (Charge i k j l e) = (x y z u v : Word) × (ws ≡ x ∷ y ∷ z ∷ u �
 Args ws (Narrow i m) = (x y : Word) × (ws ≡ x ∷ y ∷ []) × Number 255 x i × Number 255 y m
 Args ws (Weigh row) = Row ws row
 Args ws (WhatIf i k row) = (x y : Word) × (rest : List Word) × (ws ≡ x ∷ y ∷ rest) × Number 255 x i × Number 255 y k × Row rest row
+Args ws (Floor path len) = Row ws path × (length ws ≡ len)
+Args ws (FloorWith j k path len) = (x y : Word) × (rest : List Word) × (ws ≡ x ∷ y ∷ rest) × Number 255 x j × Number 255 y k × Row rest path × (length rest ≡ len)
 
 -- the words say the call: its first word, and then its arguments
 abbrev pub Says : List Word → Call → Type 0

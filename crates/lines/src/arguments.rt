@@ -11,6 +11,7 @@ use crate::call::Call;
 use crate::call::KindName;
 use crate::call::SimpleBound;
 use crate::call::Walks;
+use crate::row::read_path;
 use crate::row::read_row;
 use crate::values::FromWord;
 use crate::values::KindNameFromWord;
@@ -150,4 +151,22 @@ pub(crate) fn read_what_if(text: &str) -> Option<Call>
     let (k, rest) = take::<u8>(rest)?;
     let row = read_row(rest)?;
     Some(Call::WhatIf { i, k, row })
+}
+
+// `floor S0 S1 ..`, from the text after its first word.
+pub(crate) fn read_floor(text: &str) -> Option<Call>
+    ensures { λ r. ⌜ Exactly (Says (codes "floor" ∷ words-of (now (text .entry)))) r ⌝ }
+{
+    let (path, len) = read_path(text)?;
+    Some(Call::Floor { path, len })
+}
+
+// `floor-with J K S0 S1 ..`, from the text after its first word.
+pub(crate) fn read_floor_with(text: &str) -> Option<Call>
+    ensures { λ r. ⌜ Exactly (Says (codes "floor-with" ∷ words-of (now (text .entry)))) r ⌝ }
+{
+    let (j, rest) = take::<u8>(text)?;
+    let (k, rest) = take::<u8>(rest)?;
+    let (path, len) = read_path(rest)?;
+    Some(Call::FloorWith { j, k, path, len })
 }

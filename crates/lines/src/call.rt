@@ -31,7 +31,8 @@ pub enum BoundName {
     Higher(SimpleBound, SimpleBound),
 }
 
-/// A call, with its arguments. A row has twenty bytes: the settings that were written, and then zeros.
+/// A call, with its arguments. A row and a path have twenty bytes: the settings that were written, and then zeros.
+/// The `len` of a path is how many were written.
 #[derive(Clone, Copy)]
 pub enum Call {
     Open {
@@ -61,5 +62,15 @@ pub enum Call {
         i: u8,
         k: u8,
         row: [u8; 20],
+    },
+    Floor {
+        path: [u8; 20],
+        len: u8,
+    },
+    FloorWith {
+        j: u8,
+        k: u8,
+        path: [u8; 20],
+        len: u8,
     },
 }

@@ -5,6 +5,8 @@ ghost use Rattle.lines.specs.Lines.{Reads};
 ghost use Rattle.lines.specs.Words.{words-of};
 use crate::arguments::read_add;
 use crate::arguments::read_charge;
+use crate::arguments::read_floor;
+use crate::arguments::read_floor_with;
 use crate::arguments::read_narrow;
 use crate::arguments::read_open;
 use crate::arguments::read_weigh;
@@ -25,7 +27,7 @@ pub enum Line {
 /// - `open NUMBER KIND WALKS BOUND`: a kind is `count`, `sum`, `worst` or `ranked`, the walks are `plain` or `both`, and a
 ///   bound is `past`, `forward`, `directed`, or `higher` and two of these. With `both`, `past` is no bound, nor a part of one.
 /// - `add SETTINGS`, `charge I K J L CLASH`, `narrow I MASK`
-/// - `weigh S0 S1 ..` and `what-if I K S0 S1 ..`, with at most twenty settings
+/// - `weigh S0 S1 ..`, `what-if I K S0 S1 ..`, `floor S0 S1 ..` and `floor-with J K S0 S1 ..`, with at most twenty settings
 ///
 /// A number is one digit or more, with no sign; leading zeros are allowed. NUMBER is a `u32`, CLASH a `u16`, and each other a `u8`.
 pub fn read_call(line: &str) -> Option<Call>
@@ -39,6 +41,8 @@ pub fn read_call(line: &str) -> Option<Call>
         "narrow" => read_narrow(rest),
         "weigh" => read_weigh(rest),
         "what-if" => read_what_if(rest),
+        "floor" => read_floor(rest),
+        "floor-with" => read_floor_with(rest),
         _ => None,
     }
 }

@@ -13,7 +13,7 @@ use Rattle.jobs.specs.Refusals.{number-of, Decides}
 use Rattle.lines.specs.declared.answer.Figure.{Figure}
 use Rattle.lines.specs.declared.answer.Answer.{Answer}
 use Rattle.lines.specs.declared.answer.Answer.the-variants.{Charge, Refused}
-use Rattle.reports.specs.Performs.{Tells}
+use Rattle.reports.specs.Building.{Tells}
 
 module _ {C V : Type 0} (means : C → V) (made : V → C) (shows : C → Figure)
     (stands : (v : V) → means (made v) ≡ v) (alike : (x y : C) → means x ≡ means y → shows x ≡ shows y) where

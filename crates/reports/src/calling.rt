@@ -1,9 +1,9 @@
-// One call of a script, carried out on a job.
+// One call that builds or weighs, carried out on a job.
 ghost use mathlib.Core.Path.{_≡_};
 ghost use Rattle.std.specs.Results.{Cases};
 ghost use Rattle.jobs.specs.Refusals.{number-of};
 ghost use Rattle.lines.specs.declared.answer.Answer.the-variants as answer;
-ghost use Rattle.reports.specs.Performs.{Performs};
+ghost use Rattle.reports.specs.Building.{Builds};
 use crate::figured::Figured;
 use jobs::job::Job;
 use jobs::refusal::Refusal;
@@ -30,14 +30,14 @@ fn done_or_refused(given: Result<(), Refusal>) -> Answer
     }
 }
 
-/// Carries out a call on a job, and gives its answer. Opening is no call on a job.
-pub fn carry_out<C: Figured, W>(job: &mut Job<C, W>, sheet: &mut [u16], call: Call) -> Answer
-    ensures performs { λ r. ⌜ Performs (C·Charge .kind) (λ v. C·Figured .shows (C·Charge .made v)) (now (job .entry) .modules) (now (sheet .entry)) call r (now (job .exit) .modules) (now (sheet .exit)) ⌝ }
+/// Carries out a call that builds or weighs, and gives its answer.
+pub fn build<C: Figured, W>(job: &mut Job<C, W>, sheet: &mut [u16], call: Call) -> Answer
+    ensures builds { λ r. ⌜ Builds (C·Charge .kind) (λ v. C·Figured .shows (C·Charge .made v)) (now (job .entry) .modules) (now (sheet .entry)) call r (now (job .exit) .modules) (now (sheet .exit)) ⌝ }
     ensures same_number { λ _. ⌜ now (job .exit) .number ≡ now (job .entry) .number ⌝ }
     ensures same_walks { λ _. ⌜ now (job .exit) .walks ≡ now (job .entry) .walks ⌝ }
 {
     match call {
-        Call::Open { .. } => Answer::NotACall,
+        Call::Open { .. } | Call::Floor { .. } | Call::FloorWith { .. } => Answer::NotACall,
         Call::Add { settings } => match job.add(sheet, settings) {
             Ok(module) => Answer::Module(module),
             Err(refusal) => Answer::Refused(refusal.number()),

@@ -5,3 +5,4 @@ pub mod opened;
 pub mod program;
 pub mod script;
 pub mod session;
+pub mod walked;

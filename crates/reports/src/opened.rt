@@ -1,4 +1,6 @@
 // A job as a script opens it: of a kind, for walks, with a bound.
+use bound_names::names::Named;
+use bound_names::names::SettingName;
 use charges::Count;
 use charges::Ranked;
 use charges::Sum;
@@ -6,13 +8,12 @@ use charges::Worst;
 use jobs::job::Both;
 use jobs::job::Job;
 use jobs::job::Plain;
-use lines::call::BoundName;
 
 /// A job that charges by `C`, for either choice of walks.
 #[derive(Drop)]
 pub enum Opened<C> {
-    ForPlain(Job<C, Plain<BoundName>>),
-    ForBoth(Job<C, Both<BoundName>>),
+    ForPlain(Job<C, Plain<Named>>),
+    ForBoth(Job<C, Both<SettingName>>),
 }
 
 /// A job of any kind.

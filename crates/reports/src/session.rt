@@ -1,9 +1,11 @@
 // The calls of a script, on the job that it has open.
-ghost use mathlib.Core.Path.{_≡_};
-ghost use lib.ListN.{length, replicate};
+ghost use Rattle.lines.specs.Calls.{allowed};
 ghost use Rattle.reports.specs.Performs.{Performs};
-ghost use Rattle.reports.specs.Sessions.{modules-in, terms-of, Fresh, Goes-on, On-job, Answers};
-use crate::calling::carry_out;
+ghost use Rattle.reports.specs.Sessions.{modules-in, terms-of, Opened-for, Fresh, Goes-on, On-job, Answers};
+ghost use Rattle.std.specs.Options.{Cases};
+ghost use lib.ListN.{length, replicate};
+ghost use mathlib.Core.Bool.{true, false};
+ghost use mathlib.Core.Path.{_≡_};
 use crate::figured::CountFigured;
 use crate::figured::Figured;
 use crate::figured::RankedFigured;
@@ -11,6 +13,19 @@ use crate::figured::SumFigured;
 use crate::figured::WorstFigured;
 use crate::opened::AnyJob;
 use crate::opened::Opened;
+use crate::walked::call_both;
+use crate::walked::call_plain;
+use bound_names::names::BothNamed;
+use bound_names::names::BothSetting;
+use bound_names::names::Named;
+use bound_names::names::PlainNamed;
+use bound_names::names::setting_name;
+use bounds::asking::SCRATCH;
+use charges::Charge;
+use charges::Count;
+use charges::Ranked;
+use charges::Sum;
+use charges::Worst;
 use charges::count::CountCharge;
 use charges::ranked::RankedCharge;
 use charges::sum::SumCharge;
@@ -23,29 +38,32 @@ use lines::call::KindName;
 use lines::call::Walks;
 
 impl<C: Figured> Opened<C> {
-    // A fresh job.
-    fn open(number: u32, walks: Walks, bound: BoundName) -> Opened<C>
-        ensures terms { λ r. ⌜ terms-of r ≡ record { number = number; walks = walks; bound = bound } ⌝ }
-        ensures empty { λ r. ⌜ modules-in r .count ≡ 0 ⌝ }
+    // A fresh job; `None` where the bound is no setting bound and both walks are asked for.
+    fn open(number: u32, walks: Walks, bound: BoundName) -> Option<Opened<C>>
+        ensures { λ r. ⌜ Cases r (allowed walks bound ≡ false)
+            (λ o. (allowed walks bound ≡ true) × (terms-of o .number ≡ number) × Opened-for walks bound (terms-of o .opening) × (modules-in o .count ≡ 0)) ⌝ }
     {
         match walks {
-            Walks::Plain => Opened::ForPlain(Job::open_plain(number, bound)),
-            Walks::Both => Opened::ForBoth(Job::open_both(number, bound)),
+            Walks::Plain => Some(Opened::ForPlain(Job::open_plain(number, Named { bound }))),
+            Walks::Both => match setting_name(bound) {
+                Some(name) => Some(Opened::ForBoth(Job::open_both(number, name))),
+                None => None,
+            },
         }
     }
 
     // Carries out a call, whatever the walks.
-    fn carry_out(self, sheet: &mut [u16], call: Call) -> (Opened<C>, Answer)
-        ensures performs { λ r. ⌜ Performs (C·Charge .kind) (λ v. C·Figured .shows (C·Charge .made v)) (modules-in self) (now (sheet .entry)) call (r .1) (modules-in (r .0)) (now (sheet .exit)) ⌝ }
+    fn carry_out(self, sheet: &mut [u16], scratch: &mut [C], call: Call) -> (Opened<C>, Answer)
+        ensures performs { λ r. ⌜ Performs (C·Charge .kind) (λ v. C·Figured .shows (C·Charge .made v)) (terms-of self .opening) (length (now (scratch .entry))) (modules-in self) (now (sheet .entry)) call (r .1) (modules-in (r .0)) (now (sheet .exit)) ⌝ }
         ensures same { λ r. ⌜ terms-of (r .0) ≡ terms-of self ⌝ }
     {
         match self {
             Opened::ForPlain(mut job) => {
-                let answer = carry_out(&mut job, sheet, call);
+                let answer = call_plain(&mut job, sheet, scratch, call);
                 (Opened::ForPlain(job), answer)
             }
             Opened::ForBoth(mut job) => {
-                let answer = carry_out(&mut job, sheet, call);
+                let answer = call_both(&mut job, sheet, scratch, call);
                 (Opened::ForBoth(job), answer)
             }
         }
@@ -54,14 +72,14 @@ impl<C: Figured> Opened<C> {
 
 impl AnyJob {
     // A fresh job of a kind.
-    fn open(number: u32, kind: KindName, walks: Walks, bound: BoundName) -> AnyJob
-        ensures { λ r. ⌜ Fresh number kind walks bound r ⌝ }
+    fn open(number: u32, kind: KindName, walks: Walks, bound: BoundName) -> Option<AnyJob>
+        ensures { λ r. ⌜ Cases r (allowed walks bound ≡ false) (Fresh number kind walks bound) ⌝ }
     {
         match kind {
-            KindName::Count => AnyJob::ByCount(Opened::open(number, walks, bound)),
-            KindName::Sum => AnyJob::BySum(Opened::open(number, walks, bound)),
-            KindName::Worst => AnyJob::ByWorst(Opened::open(number, walks, bound)),
-            KindName::Ranked => AnyJob::ByRank(Opened::open(number, walks, bound)),
+            KindName::Count => Some(AnyJob::ByCount(Opened::open(number, walks, bound)?)),
+            KindName::Sum => Some(AnyJob::BySum(Opened::open(number, walks, bound)?)),
+            KindName::Worst => Some(AnyJob::ByWorst(Opened::open(number, walks, bound)?)),
+            KindName::Ranked => Some(AnyJob::ByRank(Opened::open(number, walks, bound)?)),
         }
     }
 
@@ -71,19 +89,23 @@ impl AnyJob {
     {
         match self {
             AnyJob::ByCount(job) => {
-                let (job, answer) = job.carry_out(sheet, call);
+                let mut scratch = [Count::zero(); SCRATCH];
+                let (job, answer) = job.carry_out(sheet, &mut scratch, call);
                 (AnyJob::ByCount(job), answer)
             }
             AnyJob::BySum(job) => {
-                let (job, answer) = job.carry_out(sheet, call);
+                let mut scratch = [Sum::zero(); SCRATCH];
+                let (job, answer) = job.carry_out(sheet, &mut scratch, call);
                 (AnyJob::BySum(job), answer)
             }
             AnyJob::ByWorst(job) => {
-                let (job, answer) = job.carry_out(sheet, call);
+                let mut scratch = [Worst::zero(); SCRATCH];
+                let (job, answer) = job.carry_out(sheet, &mut scratch, call);
                 (AnyJob::ByWorst(job), answer)
             }
             AnyJob::ByRank(job) => {
-                let (job, answer) = job.carry_out(sheet, call);
+                let mut scratch = [Ranked::zero(); SCRATCH];
+                let (job, answer) = job.carry_out(sheet, &mut scratch, call);
                 (AnyJob::ByRank(job), answer)
             }
         }
@@ -121,10 +143,13 @@ pub fn answer(job: Option<AnyJob>, sheet: &mut [u16], call: Call) -> (Option<Any
             kind,
             walks,
             bound,
-        } => {
-            blank(sheet);
-            (Some(AnyJob::open(number, kind, walks, bound)), Answer::Done)
-        }
+        } => match AnyJob::open(number, kind, walks, bound) {
+            Some(fresh) => {
+                blank(sheet);
+                (Some(fresh), Answer::Done)
+            }
+            None => (job, Answer::NotACall),
+        },
         _ => on_job(job, sheet, call),
     }
 }

@@ -3,9 +3,9 @@ use lib.ListN.{set}
 use Rattle.tables.specs.Setups.{charge-of}
 use Rattle.jobs.specs.Checks.{weigh-checks, what-if-checks}
 use Rattle.lines.specs.declared.call.Call.{Call}
-use Rattle.reports.specs.Performs.{Performs}
+use Rattle.reports.specs.Building.{Builds}
 use Rattle.reports.proofs.Tellings.{tells-charge}
-use Rattle.reports.proofs.calling.carry_out.Needs as need
+use Rattle.reports.proofs.calling.build.Needs as need
 
 pub returns-in-Weigh : need.returns-in-Weigh
 returns-in-Weigh g c =
@@ -15,7 +15,7 @@ returns-in-Weigh g c =
     let row = c .in-Weigh .row in
     let r = c .charge-or-refused .result in
     record {
-      performs = subst (λ (call : Call). Performs K (λ v. g .C·Figured .shows (g .C·Charge .made v)) m sheet call r m sheet) (sym (c .in-Weigh .is))
+      builds = subst (λ (call : Call). Builds K (λ v. g .C·Figured .shows (g .C·Charge .made v)) m sheet call r m sheet) (sym (c .in-Weigh .is))
           (tells-charge (g .C·Charge .means) (g .C·Charge .made) (g .C·Figured .shows) (g .C·Charge·met .stands) (g .C·Figured·met .alike)
           (c .weigh .result) (weigh-checks m sheet row) (charge-of K sheet row (m .count)) r _ _ refl refl
           (c .weigh .ensures) (c .charge-or-refused .ensures));
@@ -33,7 +33,7 @@ returns-in-WhatIf g c =
     let k = c .in-WhatIf .k in
     let r = c .charge-or-refused-in-WhatIf .result in
     record {
-      performs = subst (λ (call : Call). Performs K (λ v. g .C·Figured .shows (g .C·Charge .made v)) m sheet call r m sheet) (sym (c .in-WhatIf .is))
+      builds = subst (λ (call : Call). Builds K (λ v. g .C·Figured .shows (g .C·Charge .made v)) m sheet call r m sheet) (sym (c .in-WhatIf .is))
           (tells-charge (g .C·Charge .means) (g .C·Charge .made) (g .C·Figured .shows) (g .C·Charge·met .stands) (g .C·Figured·met .alike)
           (c .what-if .result) (what-if-checks m sheet row i k) (charge-of K sheet (set row i k) (m .count)) r _ _ refl refl
           (c .what-if .ensures .decides) (c .charge-or-refused-in-WhatIf .ensures));

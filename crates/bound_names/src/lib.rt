@@ -1,0 +1,2 @@
+// The bounds that a script names.
+pub mod names;
