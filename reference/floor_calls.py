@@ -1,4 +1,4 @@
-"""Prints a script that asks for the floors of every beginning of three small
+"""Prints a script that asks for the floors of every beginning of four small
 jobs, for each kind and bound, and for the answers of every setting; and of
 paths that are no beginnings."""
 import itertools
@@ -9,6 +9,7 @@ OPENINGS = ["plain past", "plain forward", "plain directed", "plain higher past 
 
 # settings and masks of the modules, and the clashes (module, setting, module, setting, clash)
 TWO_MODULES = ([2, 2], [3, 3], [(0, 0, 1, 0, 50), (0, 0, 1, 1, 70), (0, 1, 1, 1, 30)])
+ONE_SETTING_EACH = ([1, 1, 1], [1, 1, 1], [(0, 0, 1, 0, 100)])
 THREE_MODULES = ([3, 2, 3], [5, 3, 6], [
     (0, 0, 1, 0, 1000), (0, 0, 1, 1, 7), (0, 2, 1, 0, 3), (0, 1, 1, 0, 1),
     (0, 0, 2, 0, 9), (0, 0, 2, 1, 40), (0, 0, 2, 2, 41), (0, 2, 2, 1, 1000), (0, 2, 2, 2, 12),
@@ -56,6 +57,6 @@ def floors(number, kind, opening, job):
 number = 0
 for kind in KINDS:
     for opening in OPENINGS:
-        for job in (TWO_MODULES, THREE_MODULES, FOUR_MODULES):
+        for job in (TWO_MODULES, ONE_SETTING_EACH, THREE_MODULES, FOUR_MODULES):
             floors(number, kind, opening, job)
             number += 1

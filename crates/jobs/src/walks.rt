@@ -60,6 +60,7 @@ pub impl<C: Charge, B: SettingBound<C>> Walk<C> for Both<B> as BothWalk {
         len: usize,
         scratch: &mut [C],
     ) -> C {
-        self.bound.floor_at(modules, sheet, path, len, scratch)
+        let bound = &self.bound;
+        bound.floor_at(modules, sheet, path, len, scratch)
     }
 }
