@@ -1,3 +1,5 @@
 // The text of an answer, and of a line with its answer.
+#![tactic(auto)]
+
 pub mod answer;
 pub mod report;

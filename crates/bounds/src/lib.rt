@@ -1,4 +1,6 @@
 // Bounds: floors under the charge of every setup that starts with a beginning.
+#![tactic(auto)]
+
 pub mod asking;
 pub mod bound;
 pub mod setting;

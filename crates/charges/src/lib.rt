@@ -1,4 +1,6 @@
 // Charge kinds: what a setup's clashes come to.
+#![tactic(auto)]
+
 ghost use Rattle.std.specs.Prelude.{◌≡◌, ◌≤◌, min};
 ghost use Rattle.charges.specs.Kinds.{Kind, Lawful};
 

@@ -1,5 +1,7 @@
 // The table of counts that a bound prepares in its scratch: the count of setting k of module j at 8j + k, and the least of
 // module j at 160 + j. In the end the answers stand in the place of the counts.
+#![tactic(auto)]
+
 ghost use Rattle.std.specs.Prelude.{◌≡◌, ℕ, ◌+◌, ◌*◌, ◌<◌, ◌≤◌, true, length, take, slice_index_or};
 ghost use Rattle.bounds.specs.Answers.{Has, Rows, SameButRow};
 ghost use Rattle.count_table.specs.Table.{Answered, Leasts};

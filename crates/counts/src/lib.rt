@@ -1,4 +1,6 @@
 // Counts of settings, the least of a module, and the floors that are made of them.
+#![tactic(auto)]
+
 ghost use Rattle.counts.specs.Floors.{past_charge, least_entry, directed, floor_over};
 ghost use Rattle.counts.specs.Least.{meant, lesser, or_zero, least};
 ghost use Rattle.counts.specs.Tallies.{counted};

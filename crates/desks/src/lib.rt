@@ -1,4 +1,6 @@
 // Jobs with the tickets of their walks.
+#![tactic(auto)]
+
 pub mod building;
 pub mod calls;
 pub mod desk;

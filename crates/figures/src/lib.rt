@@ -1,4 +1,6 @@
 // Worked figures, proved of the definitions: each function's contract is a figure, and it answers that figure.
+#![tactic(auto)]
+
 ghost use Rattle.std.specs.Prelude.{◌≡◌};
 ghost use Rattle.charges.specs.Capped.{capped};
 ghost use Rattle.charges.specs.Count.{counts};

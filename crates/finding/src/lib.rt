@@ -1,4 +1,6 @@
 // What a walk of a job finds, stated of every kind of charge and proved.
+#![tactic(auto)]
+
 ghost use Rattle.finding.specs.Findings.{SetupsFit, FindsAtEnd, FindsSoFar, Ends, Agree};
 
 use charges::Charge;

@@ -1,4 +1,6 @@
 // The past, forward and directed bounds.
+#![tactic(auto)]
+
 ghost use Rattle.counts.specs.Floors.{past_charge, forward_floor, forward_with, directed_floor, directed_with};
 ghost use Rattle.std.proofs.Common.{sym, subst};
 ghost use Rattle.charges.specs.Kinds.{AtMost};

@@ -1,4 +1,6 @@
 // The higher of two bounds.
+#![tactic(auto)]
+
 ghost use Rattle.std.specs.Prelude.{◌≡◌, ℕ, ◌+◌, ◌*◌, ◌<◌, ◌≤◌, true, length, take, slice_index_or};
 ghost use Rattle.bounds.specs.Answers.{Rows, SameButRow};
 ghost use Rattle.bounds.specs.Beginnings.{answerable};

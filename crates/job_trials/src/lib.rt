@@ -1,4 +1,6 @@
 // Tests of the calls on a job: what is taken, each refusal, and which of two that fit is answered.
+#![tactic(auto)]
+
 #[cfg(test)]
 mod tests {
     use charges::Count;

@@ -1,4 +1,6 @@
 // Jobs: modules with their settings, and the calls on them.
+#![tactic(auto)]
+
 pub mod building;
 pub mod floors;
 mod guard;

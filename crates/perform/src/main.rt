@@ -1,4 +1,6 @@
 // perform: carries out a script of calls from standard input, and prints each call with its answer.
+#![tactic(auto)]
+
 use reports::program::perform;
 use std::io;
 

@@ -1,4 +1,6 @@
 // Carrying out the lines of a script of calls.
+#![tactic(auto)]
+
 pub mod calling;
 pub mod figured;
 pub mod opened;

@@ -1,4 +1,6 @@
 // Lists of calls on a job, and what every walk in them finds.
+#![tactic(auto)]
+
 pub mod answer;
 pub mod call;
 mod carrying;

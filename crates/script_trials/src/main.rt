@@ -1,4 +1,6 @@
 // A script of random calls, whose answers were made by the independent implementation in reference/.
+#![tactic(auto)]
+
 use reports::program::perform;
 use std::io;
 

@@ -1,4 +1,6 @@
 // The modules of a job, the sheet, and what a setup is charged.
+#![tactic(auto)]
+
 pub mod module_record;
 pub mod modules;
 pub mod settings;

@@ -1,5 +1,7 @@
 // Worked figures of walks by count, proved of the definitions: each function's contract is a figure, and it answers that figure.
 // Each answers a setup, its charge and a number of steps.
+#![tactic(auto)]
+
 ghost use Rattle.std.specs.Prelude.{true, false};
 ghost use Rattle.std.proofs.Math.Option.{some, none};
 ghost use Rattle.walk_figures.specs.Jobs.{two_modules, three_modules};

@@ -1,4 +1,6 @@
 // The walks, one step at a time.
+#![tactic(auto)]
+
 pub mod closing;
 mod moving;
 pub mod outcome;
