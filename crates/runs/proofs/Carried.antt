@@ -1,6 +1,6 @@
 -- A list of calls, carried out so far.
 use Rattle.std.proofs.Common.{◌≡◌, ℕ, zero, suc, ◌+◌, ◌<◌, List, [], ◌∷◌, ◌++◌, map, length, get_or, take, drop, set, sym, refl, ap, ◌∙◌, subst, subst₂, add-one, arith, length-set, take-suc, take-suc-set}
-use mathlib.Core.List.{map_append}
+use mathlib.Core.List.{map-append}
 use Rattle.charges.specs.Kinds.{Kind}
 use Rattle.tables.specs.declared.modules.Modules.{Modules}
 use Rattle.runs.specs.declared.answer.Answer.{Answer}
@@ -25,7 +25,7 @@ drop_next xs ys i e = sym (one xs i) ∙ ap (drop 1) e ∙ one ys i
     one (x ∷ xs) (suc i) = one xs i
 
 map_take : {A B : Type 0} (f : A → B) (xs : List A) (i : ℕ) (d : A) → i < length xs → map f (take (i + 1) xs) ≡ map f (take i xs) ++ (f (get_or xs i d) ∷ [])
-map_take f xs i d l = ap (map f) (rw add-one (take-suc xs i d l)) ∙ map_append f (take i xs) (get_or xs i d ∷ [])
+map_take f xs i d l = ap (map f) (rw add-one (take-suc xs i d l)) ∙ map-append f (take i xs) (get_or xs i d ∷ [])
 
 module _ {C X : Type 0} (K : Kind) (means : C → K.V) (floor : Modules → List ℕ → List ℕ → C) (with-setting : Modules → List ℕ → List ℕ → ℕ → ℕ → C) (number space : ℕ)
     (as_call : X → BothCall C) (before : Stand C) (calls : List X) (blank : List (Answer C)) where

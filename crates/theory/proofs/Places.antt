@@ -1,7 +1,7 @@
 -- Where the walk stands among the beginnings that it looks at.
 use mathlib.Core.Path.{◌≡◌, refl, sym, subst, ap, ap₂, ◌∙◌}
 use mathlib.Core.List.{List, [], ◌∷◌, ◌++◌, map}
-use mathlib.Core.Bool.{Bool, true, false, not, ◌&&◌, ◌||◌, cond, and_true, and-false}
+use mathlib.Core.Bool.{Bool, true, false, not, ◌&&◌, ◌||◌, cond, and-true, and-false}
 use Prim.Native.Nat.{ℕ, zero, suc, ◌+◌, ◌<◌}
 use native.Mathlib.Omega.{arith}
 use lib.ListN.{length, drop}
@@ -72,7 +72,7 @@ module _ {V : Type 0} (P : Problem V) (W : Walk V) where
     share_high k l =
         let e = ap (λ b. bit (not b)) (precedes_high k a [] t l) in
         let r = count_same (λ s. goes_on P W (p ++ (k ∷ [])) s && not (precedes (k ∷ s) (a ∷ t))) (goes_on P W (p ++ (k ∷ [])))
-        (λ s. ap (λ b. goes_on P W (p ++ (k ∷ [])) s && not b) (precedes_high k a s t l) ∙ and_true (goes_on P W (p ++ (k ∷ [])) s)) (beginnings ds) in
+        (λ s. ap (λ b. goes_on P W (p ++ (k ∷ [])) s && not b) (precedes_high k a s t l) ∙ and-true (goes_on P W (p ++ (k ∷ [])) s)) (beginnings ds) in
         omega arith
 
     share_same : share a ≡ bit (not (precedes [] t)) + left (p ++ (a ∷ [])) t ds
@@ -154,7 +154,7 @@ module _ {V : Type 0} (P : Problem V) (W : Walk V) where
         let r = left_all up a [] h.1 in
         let q = place_left p a [] more h.0 in
         let below_it = count_same (λ s. on (p ++ (a ∷ [])) s && not (precedes s [])) (goes_on P W (p ++ (a ∷ [])))
-        (λ s. ap₂ (λ b c. b && not c) (on_snoc p a s) (precedes_none s) ∙ and_true (goes_on P W (p ++ (a ∷ [])) s)) (beginnings (from P W (suc (length p)))) in
+        (λ s. ap₂ (λ b c. b && not c) (on_snoc p a s) (precedes_none s) ∙ and-true (goes_on P W (p ++ (a ∷ [])) s)) (beginnings (from P W (suc (length p)))) in
         omega arith
 
     pub step_places : (path : List Level) (best : Option (List ℕ)) (limit : V) (n : ℕ) → Lawful P W → Cheapest P (Past path) best limit → Matches P W path → Places path

@@ -48,7 +48,7 @@ impl FromWord for u32 {
 
 /// The value that the first word of the text says, and what follows that word.
 pub fn take<T: FromWord>(text: &str) -> Option<(T, &str)>
-    ensures { Takes said (words_of text.now) result }
+    ensures { Takes T.said (words_of text.now) result }
 {
     let (word, rest) = next_word(text)?;
     let value = T::from_word(word)?;
@@ -57,7 +57,7 @@ pub fn take<T: FromWord>(text: &str) -> Option<(T, &str)>
 
 /// The values that the first two words of the text say, and what follows these words.
 pub fn take_two<T: FromWord + Drop>(text: &str) -> Option<(T, T, &str)>
-    ensures { TakesTwo said (words_of text.now) result }
+    ensures { TakesTwo T.said (words_of text.now) result }
 {
     let (one, rest) = take::<T>(text)?;
     let (two, rest) = take::<T>(rest)?;

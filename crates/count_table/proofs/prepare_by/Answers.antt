@@ -22,7 +22,7 @@ returns g c =
     let mins : ℕ → K.V = λ i. least K (allows m i) (f i) in
     let past = past_charge K sheet p in
     let long : length p ≡ d = taken K L sheet path d c.requires.held.long in
-    let told = c.write-answers.ensures f c.write-table.ensures.counts c.write-table.ensures.leasts in
+    let told = c.write_answers.ensures f c.write_table.ensures.counts c.write_table.ensures.leasts in
     record {
       answers = λ j from below k small allowed z.
           told.answers j from below k small allowed z

@@ -20,25 +20,25 @@ loop-j-preserved g c =
     let j = c.loop-j.j in
     let start = means c.args.start in
     let xs = c.loop-j.scratch in
-    let ys = c.join-row.new.scratch in
+    let ys = c.join_row.new.scratch in
     let from_d : d ≤ j = omega arith in
     let to_n : j < m.count = omega arith in
-    let same = c.join-row.ensures.others in
+    let same = c.join_row.ensures.others in
     let same_length : length ys ≡ length c.args.scratch.now = omega (arith, c.loop-j.invariant.0) in
     let within : 160 + j < length ys = omega (arith, m.few) in (
       same_length,
       λ f rows leasts.
           let inv = c.loop-j.invariant.1 f rows leasts in
           let mins : ℕ → K.V = λ i. least K (allows m i) (f i) in
-          let others = means c.join-leasts-others.result in
+          let others = means c.join_leasts-others.result in
           let told =
-          c.join-leasts-others.ensures c.args.start
+          c.join_leasts-others.ensures c.args.start
           ∙ ap (λ n. K.join (means c.loop-j.before) (joined_from K (λ i. means (get_or xs (160 + i) c.args.start)) (j + 1) n)) c.count.ensures in
           let kept = leasts_kept K L means m f start d j from_d to_n xs ys same inv.3 in
           let others_is = others_are K L means m f start d j from_d to_n xs ys same (means c.loop-j.before) others c.args.start inv.0 told inv.3 in
           let read = get_or_read ys (160 + j) c.index-scratch-j.result within c.index-scratch-j.is c.args.start in (
             from_step K L start mins d j from_d inv.0 c.joined-before.ensures (ap means read ∙ kept j from_d to_n c.args.start),
-            rows_changed means (allows m) j xs ys same (chosen K m f start d) d (row_answered K L means m f start d j from_d to_n xs ys same others others_is c.join-row.ensures.counts inv.2) inv.1,
+            rows_changed means (allows m) j xs ys same (chosen K m f start d) d (row_answered K L means m f start d j from_d to_n xs ys same others others_is c.join_row.ensures.counts inv.2) inv.1,
             rows_left means (allows m) j xs ys same f m.count inv.2,
             kept,
           ),

@@ -14,12 +14,12 @@ loop-j-preserved g c =
     let d = c.args.d in
     let j = c.loop-j.j in
     let xs = c.loop-j.scratch in
-    let ys = c.write-counts-least.new.scratch in
-    let x = c.write-counts-least.result in
+    let ys = c.write_counts-least.new.scratch in
+    let x = c.write_counts-least.result in
     let same_length : length ys ≡ length c.args.scratch.now = omega arith in
     let few : j < 20 = omega (arith, m.few) in
     let within : 160 + j < length ys = omega arith in
-    let told = c.write-counts-least.ensures in (
+    let told = c.write_counts-least.ensures in (
       length-set ys (160 + j) x ∙ same_length,
       rows_more K means passes f d j few xs ys x told.others within told.counts c.loop-j.invariant.1,
       leasts_more K means passes f d j few xs ys x told.others within told.value c.loop-j.invariant.2,

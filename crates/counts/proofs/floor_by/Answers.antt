@@ -27,7 +27,7 @@ loop-j-preserved g c =
     let p = take d c.args.path.now in
     let mins : ℕ → K.V = λ j. least K (allows m j) (counted K m sheet c.args.tally p j) in
     from_step K g.met.C.Charge.lawful (past_charge K sheet p) mins d c.loop-j.j (omega arith)
-    c.loop-j.invariant c.joined-total.ensures c.least-count.ensures
+    c.loop-j.invariant c.joined-total.ensures c.least_count.ensures
 
 pub returns : goal.returns
 returns g c =

@@ -15,9 +15,9 @@ loop-j-preserved g c =
     let len = c.args.len in
     let j = c.loop-j.j in
     let xs = c.loop-j.scratch in
-    let ys = c.take-greater.new.scratch in
+    let ys = c.take_greater.new.scratch in
     let room = c.prepare-other.new.scratch in
-    let same = c.take-greater.ensures.others in
+    let same = c.take_greater.ensures.others in
     let from : len ≤ j = omega arith in
     let below : j < m.count = omega arith in
     let same_length : length ys ≡ length c.prepare-one.new.scratch = omega (arith, c.loop-j.invariant.0) in (
@@ -25,7 +25,7 @@ loop-j-preserved g c =
       λ f h first second.
           let inv = c.loop-j.invariant.1 f h first second in (
             rows_changed means passes j xs ys same (λ i k. greater K (f i k) (h i k)) len
-                (λ k small p z. c.take-greater.ensures.answers k small p z
+                (λ k small p z. c.take_greater.ensures.answers k small p z
                 ∙ ap (λ x. greater K x (means (get_or room (8 * j + k) z))) (inv.1 j (omega arith) below k small p z)
                 ∙ ap (greater K (f j k)) (second j from below k small p z))
                 inv.0,

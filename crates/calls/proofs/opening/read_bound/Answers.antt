@@ -5,15 +5,15 @@ use Rattle.words.proofs.Cuts.{same_rest}
 use Rattle.calls.proofs.Named.{no_higher}
 use Rattle.calls.proofs.opening.read_bound.Goals as goal
 
-pub returns-in-err-a : goal.returns-in-err-a
-returns-in-err-a c =
-    let rest = words_of c.in-ok-word.rest.now in
-    let begins = sym (ap (λ w. w ∷ rest) (c.if-eq.ensures.0 refl)) ∙ sym c.in-ok-word.ensures in
-    rw c.from-residual-in-err-a.ensures (λ b e. no_higher rest (λ x y f. c.in-err-a.ensures (bound_word x) (bound_word y ∷ []) x f refl) b (begins ∙ e))
+pub returns-in_err-a : goal.returns-in_err-a
+returns-in_err-a c =
+    let rest = words_of c.in_ok-word.rest.now in
+    let begins = sym (ap (λ w. w ∷ rest) (c.if-eq.ensures.0 refl)) ∙ sym c.in_ok-word.ensures in
+    rw c.from_residual-in_err-a.ensures (λ b e. no_higher rest (λ x y f. c.in_err-a.ensures (bound_word x) (bound_word y ∷ []) x f refl) b (begins ∙ e))
 
-pub returns-in-err-b : goal.returns-in-err-b
-returns-in-err-b c =
-    let rest = words_of c.in-ok-word.rest.now in
-    let begins = sym (ap (λ w. w ∷ rest) (c.if-eq.ensures.0 refl)) ∙ sym c.in-ok-word.ensures in
-    let p = c.in-ok-a.ensures.1 in
-    rw c.from-residual-in-err-b.ensures (λ b e. no_higher rest (λ x y f. c.in-err-b.ensures (bound_word y) [] y (same_rest p f) refl) b (begins ∙ e))
+pub returns-in_err-b : goal.returns-in_err-b
+returns-in_err-b c =
+    let rest = words_of c.in_ok-word.rest.now in
+    let begins = sym (ap (λ w. w ∷ rest) (c.if-eq.ensures.0 refl)) ∙ sym c.in_ok-word.ensures in
+    let p = c.in_ok-a.ensures.1 in
+    rw c.from_residual-in_err-b.ensures (λ b e. no_higher rest (λ x y f. c.in_err-b.ensures (bound_word y) [] y (same_rest p f) refl) b (begins ∙ e))

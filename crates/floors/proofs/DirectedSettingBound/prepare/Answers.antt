@@ -4,8 +4,8 @@ use borrow.Author.Rules.{rules}
 use Rattle.bounds.proofs.Answerable.{begun, begun_holds}
 use Rattle.floors.proofs.DirectedSettingBound.prepare.Goals as goal
 
-pub prepare-by-requires : goal.prepare-by-requires
-prepare-by-requires g c =
+pub prepare_by-requires : goal.prepare_by-requires
+prepare_by-requires g c =
     let m = c.args.modules.now in
     let sheet = c.args.sheet.now in
     let room = length c.args.scratch.now in

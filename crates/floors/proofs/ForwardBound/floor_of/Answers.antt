@@ -4,8 +4,8 @@ use borrow.Author.Rules.{rules}
 use Rattle.bounds.proofs.Answerable.{begun, begun_holds}
 use Rattle.floors.proofs.ForwardBound.floor_of.Goals as goal
 
-pub floor-by-requires : goal.floor-by-requires
-floor-by-requires g c =
+pub floor_by-requires : goal.floor_by-requires
+floor_by-requires g c =
     let m = c.args.modules.now in
     let sheet = c.args.sheet.now in
     let b = begun m sheet c.args.path c.args.len (length c.args.scratch.now) c.requires in

@@ -6,5 +6,5 @@ use Rattle.lines.proofs.line.read_call.Goals as goal
 
 pub returns-in-text-2 : goal.returns-in-text-2
 returns-in-text-2 c =
-    let words = c.in-ok-word.ensures ∙ ap (λ w. w ∷ words_of c.in-ok-word.rest.now) c.in-text-2.is in
-    subst (λ ws. Exactly (Says ws) c.read-floor-with.result) (sym words) c.read-floor-with.ensures
+    let words = c.in_ok-word.ensures ∙ ap (λ w. w ∷ words_of c.in_ok-word.rest.now) c.in-text-2.is in
+    subst (λ ws. Exactly (Says ws) c.read_floor_with.result) (sym words) c.read_floor_with.ensures

@@ -6,5 +6,5 @@ use Rattle.lines.proofs.line.read_line.Goals as goal
 
 pub returns-in-None : goal.returns-in-None
 returns-in-None c =
-    let mark = starts_char 35 c.in-Some.first.now false c.if-starts-with.ensures.cases (lit< tt) (lit< tt) in
+    let mark = starts_char 35 c.in-Some.first.now false c.if-starts_with.ensures.cases (lit< tt) (lit< tt) in
     (λ skips. not_from_Decides false mark refl (subst Skips c.in-Some.ensures skips), c.in-None.ensures)

@@ -19,12 +19,12 @@ returns-in-FloorWith g c =
     let len = c.in-FloorWith.len in
     let j = c.in-FloorWith.j in
     let k = c.in-FloorWith.k in
-    let r = c.floor-with.result in
+    let r = c.floor_with.result in
     let test = answerable m sheet path len room && later_setting m len j k in
     let with = named_with K bound m sheet (take len path) j k in
     let told = cond test with K.zero in
     let stands = g.met.C.Charge.stands in
-    let e = c.floor-with.ensures ∙ ap (λ v. cond test v K.zero) (stands with) in
+    let e = c.floor_with.ensures ∙ ap (λ v. cond test v K.zero) (stands with) in
     let printed = c.figure-in-FloorWith.ensures ∙ shown g.C.Charge.means g.C.Charge.made g.C.Figured.shows stands g.met.C.Figured.alike r told e in
     record {
       performs = subst (λ (call : Call). Performs K g.C.Charge.means g.C.Charge.made (λ v. g.C.Figured.shows (g.C.Charge.made v)) g.C.Figured.says (record { number = c.args.desk.now.job.number; opening = for_both bound }) room m w sheet call (answer.Charge c.figure-in-FloorWith.result) m w sheet) (sym c.in-FloorWith.is)

@@ -4,8 +4,8 @@ use Rattle.std.proofs.lemmas.Bool.{both_ways}
 use Rattle.walks.specs.Opening.{under, answer_at, Leaves}
 use Rattle.walks.proofs.Struck.{Struck, struck_at, struck_none, struck_all, struck_on, struck_off, passes_dead, passes_under, not_over, is_over}
 use Rattle.walks.proofs.striking.strike.Goals as goal
-use Rattle.walks.proofs.striking.strike.Goals.{then-has+then-is-over+else-still-j-eq0, else-has, else-has-via-then-has+else-is-over, else-has-via-else-has}
-use Rattle.walks.proofs.striking.strike.Goals.{else-modules-test, then-modules-test+then-loop-k-test+then-has+then-is-over+then-still-j-eq0}
+use Rattle.walks.proofs.striking.strike.Goals.{then-has+then-is_over+else-still-j-eq0, else-has, else-has-via-then-has+else-is_over, else-has-via-else-has}
+use Rattle.walks.proofs.striking.strike.Goals.{else-modules-test, then-modules-test+then-loop-k-test+then-has+then-is_over+then-still-j-eq0}
 
 pub modules-init : goal.modules-init
 modules-init g c = (refl, struck_none _ _ _ _ _ _ _ (omega arith) c.requires.live c.requires.bytes)
@@ -32,7 +32,7 @@ loop-k-preserved g c =
       c.loop-k.invariant.0,
       elim c.if-has.branch [
         | then-has+then-is-over+else-still-j-eq0 w ↦
-            struck_on K limit answer c.args.row c.args.from c.args.count still j k from upto few h long (sym w.if-has.ensures) (is_over (under K limit (answer j k)) w.if-is-over.ensures)
+            struck_on K limit answer c.args.row c.args.from c.args.count still j k from upto few h long (sym w.if-has.ensures) (is_over (under K limit (answer j k)) w.if-is_over.ensures)
             _ _ (one_shl k 8 few) w.still-is w.if-still-j-eq0.false
         | else-has w ↦ subst (Struck K limit answer c.args.row c.args.from c.args.count (8 * j + (k + 1))) (sym w.still-is) (elim w.else-has.branch [
           | else-has-via-then-has+else-is-over w' ↦ passes_under K limit answer c.args.row c.args.from c.args.count still j k from upto few h (not_over (under K limit (answer j k)) w'.if-is-over.ensures)
@@ -56,7 +56,7 @@ returns-then-dead g c = elim c.modules-test.branch [
       let wide : length c.args.row ≡ 20 = search rules in
       let long : c.modules.j < length w.loop-k.still = omega (arith, w.loop-k.invariant.1.long, c.requires.space.1, w.modules-test.true) in
       struck_off K limit answer c.args.row c.args.from c.args.count w.loop-k.still c.modules.j w.loop-k.k c.modules.auto.j w.modules-test.true w.loop-k-test.true w.loop-k.invariant.1
-      long (sym w.if-has.ensures) (is_over (under K limit (answer c.modules.j w.loop-k.k)) w.if-is-over.ensures) _ (one_shl w.loop-k.k 8 w.loop-k-test.true) w.if-still-j-eq0.true
+      long (sym w.if-has.ensures) (is_over (under K limit (answer c.modules.j w.loop-k.k)) w.if-is_over.ensures) _ (one_shl w.loop-k.k 8 w.loop-k-test.true) w.if-still-j-eq0.true
 ]
 
 pub returns-else-dead : goal.returns-else-dead

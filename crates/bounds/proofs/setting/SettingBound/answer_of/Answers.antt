@@ -6,13 +6,13 @@ use Rattle.bounds.proofs.setting.SettingBound.answer_of.Goals as goal
 pub prepare-requires : goal.prepare-requires
 prepare-requires g c = c.requires.begun
 
-pub overflow-mul-result : goal.overflow-mul-result
-overflow-mul-result g c =
+pub overflow_mul-result : goal.overflow_mul-result
+overflow_mul-result g c =
     let low = setting_within c.args.modules.now c.args.len c.args.j c.args.k c.requires.later in
     search rules
 
-pub overflow-add-result : goal.overflow-add-result
-overflow-add-result g c =
+pub overflow_add-result : goal.overflow_add-result
+overflow_add-result g c =
     let low = setting_within c.args.modules.now c.args.len c.args.j c.args.k c.requires.later in
     search rules
 
@@ -23,8 +23,8 @@ bounds-scratch-j g c =
     let low = setting_within m c.args.len c.args.j c.args.k c.requires.later in
     omega (arith, b.roomy)
 
-pub offset-bounds-scratch-j : goal.offset-bounds-scratch-j
-offset-bounds-scratch-j g c =
+pub offset_bounds-scratch-j : goal.offset_bounds-scratch-j
+offset_bounds-scratch-j g c =
     let within : 8 * c.args.j + c.args.k < length c.prepare.new.scratch = bounds-scratch-j g c in
     search rules
 

@@ -28,11 +28,11 @@ loop-k-preserved g c =
     let within : 8 * j + k < length xs = omega (arith, inv.0, m.few) in
     elim c.if-allows.branch [
       | then-allows w ↦
-          let x = w.answer-of-more.result in (
+          let x = w.answer_of-more.result in (
             subst (λ ys. 192 ≤ length ys) (sym w.scratch-is) (omega (arith, length-set xs (8 * j + k) x, inv.0)),
             subst (Rows means (allows m) value len j) (sym w.scratch-is) (rows_kept means (allows m) value len j k xs x inv.1),
             subst (Row means (allows m j) (λ z. value j) j (k + 1)) (sym w.scratch-is)
-                (row_written means (allows m j) (λ z. value j) j k xs x within (λ z. w.answer-of-more.ensures) inv.2),
+                (row_written means (allows m j) (λ z. value j) j k xs x within (λ z. w.answer_of-more.ensures) inv.2),
           )
       | else-allows w ↦ (
         subst (λ ys. 192 ≤ length ys) (sym w.scratch-is) inv.0,

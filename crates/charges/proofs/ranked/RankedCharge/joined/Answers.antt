@@ -13,4 +13,4 @@ soft_joined a b s t = ⊎_elim
 pub returns : goal.returns
 returns c =
     let e = soft_joined c.args.self.forbidden c.args.other.forbidden c.args.self.soft c.args.other.soft in
-    c.new.ensures.value ∙ same_rank _ _ (omega arith) (rw (c.saturating-add.ensures, c.saturating-add-2.ensures) e)
+    c.new.ensures.value ∙ same_rank _ _ (omega arith) (rw (c.saturating_add.ensures, c.saturating_add-2.ensures) e)

@@ -6,4 +6,4 @@ use Rattle.jobs.proofs.job.Job.weigh.Goals as goal
 pub weigh-requires : goal.weigh-requires
 weigh-requires g c =
     subst (Holds c.args.sheet.now c.args.row.now) (sym c.count.ensures)
-    (row_holds c.args.self.now.modules c.args.sheet.now c.args.row.now (omega arith) (omega arith) (sym c.if-not-has-all.ensures))
+    (row_holds c.args.self.now.modules c.args.sheet.now c.args.row.now (omega arith) (omega arith) (sym c.if-not-has_all.ensures))

@@ -16,7 +16,7 @@ pub returns-in-ByCount : goal.returns-in-ByCount
 returns-in-ByCount c =
     let sheet = c.args.sheet.now in
     let call = c.args.call in
-    let told = c.carry-out-job in
+    let told = c.carry_out-job in
     let after = told.result.0 in
     let a = told.result.1 in
     let sheet' = told.new.sheet in
@@ -27,7 +27,7 @@ pub returns-in-BySum : goal.returns-in-BySum
 returns-in-BySum c =
     let sheet = c.args.sheet.now in
     let call = c.args.call in
-    let told = c.carry-out-job-in-BySum in
+    let told = c.carry_out-job-in-BySum in
     let after = told.result.0 in
     let a = told.result.1 in
     let sheet' = told.new.sheet in
@@ -38,7 +38,7 @@ pub returns-in-ByWorst : goal.returns-in-ByWorst
 returns-in-ByWorst c =
     let sheet = c.args.sheet.now in
     let call = c.args.call in
-    let told = c.carry-out-job-in-ByWorst in
+    let told = c.carry_out-job-in-ByWorst in
     let after = told.result.0 in
     let a = told.result.1 in
     let sheet' = told.new.sheet in
@@ -49,7 +49,7 @@ pub returns-in-ByRank : goal.returns-in-ByRank
 returns-in-ByRank c =
     let sheet = c.args.sheet.now in
     let call = c.args.call in
-    let told = c.carry-out-job-in-ByRank in
+    let told = c.carry_out-job-in-ByRank in
     let after = told.result.0 in
     let a = told.result.1 in
     let sheet' = told.new.sheet in

@@ -3,8 +3,8 @@ use Rattle.std.proofs.lemmas.Nat.{one_shl, pow_below}
 use Rattle.tables.proofs.Records.{adds}
 use Rattle.tables.proofs.modules.Modules.add.Goals as goal
 
-pub invariant-of-self : goal.invariant-of-self
-invariant-of-self c =
+pub invariant_of-self : goal.invariant_of-self
+invariant_of-self c =
     let shifted = one_shl c.args.settings 16 (omega arith) in
     let more = pow_below 0 c.args.settings (omega arith) in
     (c.requires.1.0, (c.requires.1.1, (omega arith, (omega arith, tt))))

@@ -5,8 +5,8 @@ use Rattle.tables.specs.Modules.{one_setting}
 use Rattle.tables.proofs.Records.{narrows}
 use Rattle.tables.proofs.modules.Modules.narrow.Goals as goal
 
-pub invariant-of-self : goal.invariant-of-self
-invariant-of-self c = λ d.
+pub invariant_of-self : goal.invariant_of-self
+invariant_of-self c = λ d.
     let records = c.args.self.now.records in
     let h : c.args.i < length records = search rules in
     let m = get_or records c.args.i d in

@@ -2,11 +2,11 @@ use Rattle.std.proofs.Common.{arith}
 use Rattle.walks.proofs.Searches.{among, facts, steps_fit, step_later}
 use Rattle.walks.proofs.state.Search.go_down.Goals as goal
 
-pub overflow-add-self : goal.overflow-add-self
-overflow-add-self g c = omega (arith, steps_fit c.args.self.now)
+pub overflow_add-self : goal.overflow_add-self
+overflow_add-self g c = omega (arith, steps_fit c.args.self.now)
 
-pub invariant-of-self : goal.invariant-of-self
-invariant-of-self g c =
+pub invariant_of-self : goal.invariant_of-self
+invariant_of-self g c =
     let s = c.args.self.now in
     let e = c.down.ensures in
     facts s.modules _ _ _ _ (e.among s.modules c.requires.within.1 c.requires.live (among s))

@@ -14,8 +14,8 @@ opened-requires g c =
       live = live_here s c.requires.within.0;
     }
 
-pub go-down-requires : goal.go-down-requires
-go-down-requires g c =
+pub go_down-requires : goal.go_down-requires
+go_down-requires g c =
     let s = c.args.self.now in
     let K = g.C.Charge.kind in
     let floor : List ℕ → K.V = λ p. g.C.Charge.means (g.W.Walk.floor c.args.walks.now s.modules c.args.sheet.now p) in
@@ -33,13 +33,13 @@ returns-in-Some g c =
     let floor : List ℕ → K.V = λ p. g.C.Charge.means (g.W.Walk.floor c.args.walks.now s.modules c.args.sheet.now p) in
     let answer : List ℕ → ℕ → ℕ → K.V = λ p j k. g.C.Charge.means (g.W.Walk.answer c.args.walks.now s.modules c.args.sheet.now p j k) in
     let p = take s.trail.len s.trail.path in
-    let out = c.go-down.new.self in
+    let out = c.go_down.new.self in
     let long : length s.trail.path ≡ 20 = search rules in
     record {
-      same = c.go-down.ensures.moved.same;
-      steps = c.go-down.ensures.moved.steps;
-      looked = looks K g.C.Charge.means s out c.args.sheet.now floor answer c.go-down.ensures.moved c.requires.within.0 c.requires.within.1 (omega (arith, s.within, s.modules.few, long))
-          (c.go-down.ensures.goes_down.first_one s.modules.count c.requires.within.1
+      same = c.go_down.ensures.moved.same;
+      steps = c.go_down.ensures.moved.steps;
+      looked = looks K g.C.Charge.means s out c.args.sheet.now floor answer c.go_down.ensures.moved c.requires.within.0 c.requires.within.1 (omega (arith, s.within, s.modules.few, long))
+          (c.go_down.ensures.goes_down.first_one s.modules.count c.requires.within.1
           ∙ sym (goes_down K _ (floor p) (answer p) _ s.trail.len s.modules.count c.requires.within.1 s.modules refl (live_here s c.requires.within.0) s.ahead c.in-Some.left c.in-Some.ensures
           (levels s.trail.path s.trail.live s.modules.count s.trail.len)));
     }
@@ -51,12 +51,12 @@ returns-in-None g c =
     let floor : List ℕ → K.V = λ p. g.C.Charge.means (g.W.Walk.floor c.args.walks.now s.modules c.args.sheet.now p) in
     let answer : List ℕ → ℕ → ℕ → K.V = λ p j k. g.C.Charge.means (g.W.Walk.answer c.args.walks.now s.modules c.args.sheet.now p j k) in
     let p = take s.trail.len s.trail.path in
-    let out = c.go-on.new.self in
+    let out = c.go_on.new.self in
     let long : length s.trail.path ≡ 20 = search rules in
     record {
-      same = c.go-on.ensures.moved.same;
-      steps = c.go-on.ensures.moved.steps;
-      looked = looks K g.C.Charge.means s out c.args.sheet.now floor answer c.go-on.ensures.moved c.requires.within.0 c.requires.within.1 (omega (arith, s.within, s.modules.few, long))
-          (c.go-on.ensures.goes_on.next_one s.modules.count
+      same = c.go_on.ensures.moved.same;
+      steps = c.go_on.ensures.moved.steps;
+      looked = looks K g.C.Charge.means s out c.args.sheet.now floor answer c.go_on.ensures.moved c.requires.within.0 c.requires.within.1 (omega (arith, s.within, s.modules.few, long))
+          (c.go_on.ensures.goes_on.next_one s.modules.count
           ∙ sym (goes_past K _ (floor p) (answer p) _ s.trail.len s.modules.count c.requires.within.1 s.ahead c.in-None.ensures (levels s.trail.path s.trail.live s.modules.count s.trail.len)));
     }

@@ -4,8 +4,8 @@ use Rattle.walks.proofs.Started.{first_live, first_path}
 use Rattle.walks.proofs.Steps.{same_state}
 use Rattle.walks.proofs.state.Search.start.Goals as goal
 
-pub invariant-of-result : goal.invariant-of-result
-invariant-of-result g c = facts c.args.modules.now _ _ _ 0 (first_live c.args.modules.now _ c.masks.ensures _ _ _ _ _ c.requires c.down.ensures) c.down.ensures.later
+pub invariant_of-result : goal.invariant_of-result
+invariant_of-result g c = facts c.args.modules.now _ _ _ 0 (first_live c.args.modules.now _ c.masks.ensures _ _ _ _ _ c.requires c.down.ensures) c.down.ensures.later
 
 pub returns : goal.returns
 returns g c = record {

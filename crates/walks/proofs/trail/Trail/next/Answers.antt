@@ -34,8 +34,8 @@ module _ (t u : Trail) (e : u ≡ t) (few : (j : ℕ) → j < t.len → get_or t
 pub loop-i-init : goal.loop-i-init
 loop-i-init c = (refl, passes_none _ _ _)
 
-pub overflow-add-self : goal.overflow-add-self
-overflow-add-self c = omega (arith, small c.args.self.now c.loop-i.self c.loop-i.invariant.0 c.requires.few c.requires.within c.loop-i.i c.loop-i-test.true c.loop-i.auto.i)
+pub overflow_add-self : goal.overflow_add-self
+overflow_add-self c = omega (arith, small c.args.self.now c.loop-i.self c.loop-i.invariant.0 c.requires.few c.requires.within c.loop-i.i c.loop-i-test.true c.loop-i.auto.i)
 
 pub lowest-requires : goal.lowest-requires
 lowest-requires c = omega (arith, small c.args.self.now c.loop-i.self c.loop-i.invariant.0 c.requires.few c.requires.within c.loop-i.i c.loop-i-test.true c.loop-i.auto.i)
@@ -44,7 +44,7 @@ pub returns-in-Some : goal.returns-in-Some
 returns-in-Some c = here c.args.self.now c.loop-i.self c.loop-i.invariant.0 c.requires.few c.requires.within c.loop-i.i c.loop-i-test.true c.loop-i.auto.i c.in-Some.k (search rules) c.loop-i.invariant.1 c.in-Some.ensures
 
 pub loop-i-preserved : goal.loop-i-preserved
-loop-i-preserved c = (c.loop-i.invariant.0, again c.args.self.now c.loop-i.self c.loop-i.invariant.0 c.requires.few c.requires.within c.loop-i.i c.loop-i-test.true c.loop-i.auto.i c.loop-i.invariant.1 c.in-default.ensures)
+loop-i-preserved c = (c.loop-i.invariant.0, again c.args.self.now c.loop-i.self c.loop-i.invariant.0 c.requires.few c.requires.within c.loop-i.i c.loop-i-test.true c.loop-i.auto.i c.loop-i.invariant.1 c.in_default.ensures)
 
 pub returns : goal.returns
 returns c =
