@@ -8,11 +8,11 @@ use Rattle.bounds.proofs.setting.SettingBound.prepare.Goals as goal
 use Rattle.bounds.proofs.setting.SettingBound.prepare.Goals.{then-allows, else-allows}
 
 -- the caller's scratch is as long, and fits
-pub whole-as-slice·answer-of : goal.whole-as-slice·answer-of
-whole-as-slice·answer-of g c =
+pub whole_as_slice-answer_of : goal.whole_as_slice-answer_of
+whole_as_slice-answer_of g c =
     let n = length c.args.scratch.now in
     let b = begun c.args.modules.now c.args.sheet.now c.args.path c.args.len n c.requires in
-    lt_of_le_of_lt (mul-le 192 _ n _ b.roomy (omega arith)) c.well-formed.1.1.1.1.1.0.1
+    lt_of_le_of_lt (mul-le 192 _ n _ b.roomy (omega arith)) c.well_formed.1.1.1.1.1.0.1
 
 pub loop-k-preserved : goal.loop-k-preserved
 loop-k-preserved g c =

@@ -7,7 +7,7 @@ pub invariant_of-self : goal.invariant_of-self
 invariant_of-self c =
     let shifted = one_shl c.args.settings 16 (omega arith) in
     let more = pow_below 0 c.args.settings (omega arith) in
-    (c.requires.1.0, (c.requires.1.1, (omega arith, (omega arith, tt))))
+    record { some = c.requires.1.0; few = c.requires.1.1; allowing = omega arith; own = omega arith }
 
 pub returns : goal.returns
 returns c =
