@@ -28,6 +28,7 @@ def files(*ends):
 def respelled(name):
     words = name.split("-")
     if name[0].isupper():
+        words = re.split("[-_]", name)
         return "".join(word[:1].upper() + word[1:] for word in words)
     return "_".join(words)
 
@@ -42,7 +43,8 @@ def defined():
             if found and found.group(1) not in LEAVE:
                 names.add(found.group(1))
             names.update(LOCAL.findall(line))
-    return {name: respelled(name) for name in sorted(names) if re.fullmatch(r"[A-Za-z][\w']*(-[\w']+)+", name)}
+    parted = r"[A-Z][a-z0-9]*(_[a-z0-9]+)+|[A-Za-z][\w']*(-[\w']+)+"
+    return {name: respelled(name) for name in sorted(names) if re.fullmatch(parted, name) and not name.startswith("T_")}
 
 
 TOKEN = re.compile(r"[^\s(){}\[\].,;:=|`\"]+")
@@ -52,8 +54,8 @@ def turn(text, names):
     return TOKEN.sub(lambda token: names.get(token.group(0), token.group(0)), text)
 
 
-def turn_line(line, names, comment, strings):
-    """Respells a line outside its strings and its comment; in the comment, what stands in backquotes."""
+def turn_line(line, names, comment, quoted):
+    """Respells a line outside its strings and its comment; if `quoted`, also what stands in backquotes in the comment."""
     out, i = [], 0
     plain = ""
     while i < len(line):
@@ -61,9 +63,9 @@ def turn_line(line, names, comment, strings):
             out.append(turn(plain, names))
             plain = ""
             note = line[i:]
-            out.append(re.sub(r"`[^`]*`", lambda code: turn(code.group(0), names), note))
+            out.append(re.sub(r"`[^`]*`", lambda code: turn(code.group(0), names), note) if quoted else note)
             return "".join(out)
-        if strings and line[i] == '"':
+        if line[i] == '"':
             end = i + 1
             while end < len(line) and line[end] != '"':
                 end += 2 if line[end] == "\\" else 1
@@ -97,8 +99,8 @@ def main():
     paths = list(files(".antt", ".rt", ".edit")) + sorted(glob.glob(".ci/must_not_compile.d/*.txt"))
     for path in paths:
         text = open(path, encoding="utf-8").read()
-        comment, strings = ("--", False) if path.endswith(".antt") else ("//", True)
-        turned = "".join(turn_line(line, names, comment, strings) for line in text.splitlines(True))
+        antt = path.endswith(".antt")
+        turned = "".join(turn_line(line, names, "--" if antt else "//", antt) for line in text.splitlines(True))
         if turned != text:
             open(path, "w", encoding="utf-8").write(turned)
 

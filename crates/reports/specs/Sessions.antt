@@ -80,17 +80,17 @@ pub record Carries {C : Type 0} (K : Kind) (means : C → K.V) (made : K.V → C
   pub performs : Performs K means made figure says (terms_of before) room (modules_in before) (walk_in before) sheet call a (modules_in after) (walk_in after) sheet'
 
 -- what a call does to a job of each kind, with scratch for 192 charges
-abbrev pub Goes_on : AnyJob → List ℕ → Call → Answer → AnyJob → List ℕ → Type 0
-Goes_on (ByCount job) sheet call a after sheet' =
+abbrev pub GoesOn : AnyJob → List ℕ → Call → Answer → AnyJob → List ℕ → Type 0
+GoesOn (ByCount job) sheet call a after sheet' =
     (job' : Opened Count) × (after ≡ ByCount job')
     × Carries counts (λ s. capped 65535 s.number) (λ v. record { number = v.number }) number_figure count_said 192 job sheet call a job' sheet'
-Goes_on (BySum job) sheet call a after sheet' =
+GoesOn (BySum job) sheet call a after sheet' =
     (job' : Opened Sum) × (after ≡ BySum job')
     × Carries sums (λ s. capped 4294967295 s.number) (λ v. record { number = v.number }) number_figure sum_said 192 job sheet call a job' sheet'
-Goes_on (ByWorst job) sheet call a after sheet' =
+GoesOn (ByWorst job) sheet call a after sheet' =
     (job' : Opened Worst) × (after ≡ ByWorst job')
     × Carries worsts (λ s. capped 65535 s.number) (λ v. record { number = v.number }) number_figure worst_said 192 job sheet call a job' sheet'
-Goes_on (ByRank job) sheet call a after sheet' =
+GoesOn (ByRank job) sheet call a after sheet' =
     (job' : Opened Ranked) × (after ≡ ByRank job')
     × Carries ranks (λ s. rank s.forbidden s.soft) (λ v. record { forbidden = v.forbidden; soft = v.soft }) rank_figure rank_said 192 job sheet call a job' sheet'
 
@@ -109,7 +109,7 @@ Ended (Some job) x = Left job x
 -- a call on what is open; where nothing is, there is no call
 abbrev pub OnJob : Option AnyJob → List ℕ → Call → Answer → Option AnyJob → List ℕ → Type 0
 OnJob None sheet call a after sheet' = (a ≡ answer.NotACall) × (after ≡ None) × (sheet' ≡ sheet)
-OnJob (Some before) sheet call a after sheet' = MatchOption after ⊥ (λ job. Goes_on before sheet call a job sheet')
+OnJob (Some before) sheet call a after sheet' = MatchOption after ⊥ (λ job. GoesOn before sheet call a job sheet')
 
 -- the walks and the bound that were named
 abbrev pub OpenedFor : Walks → BoundName → Opening → Type 0

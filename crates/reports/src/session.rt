@@ -1,7 +1,7 @@
 // The calls of a script, on the job that it has open.
 ghost use Rattle.calls.specs.Calls.{allowed};
 ghost use Rattle.jobs.specs.Searching.{is_open};
-ghost use Rattle.reports.specs.Sessions.{modules_in, walk_in, terms_of, OpenedFor, Fresh, Carries, Goes_on, Left, Ended, OnJob, Answers};
+ghost use Rattle.reports.specs.Sessions.{modules_in, walk_in, terms_of, OpenedFor, Fresh, Carries, GoesOn, Left, Ended, OnJob, Answers};
 ghost use Rattle.reports.specs.Walking.{Leaves};
 ghost use Rattle.std.specs.Prelude.{◌≡◌, true, false, length, replicate, MatchOption};
 
@@ -75,7 +75,7 @@ impl AnyJob {
 
     // Carries out a call, whatever the kind.
     fn carry_out(self, sheet: &mut [u16], call: Call) -> (AnyJob, Answer)
-        ensures { Goes_on self sheet.old call result.1 result.0 sheet.new }
+        ensures { GoesOn self sheet.old call result.1 result.0 sheet.new }
     {
         match self {
             AnyJob::ByCount(job) => {

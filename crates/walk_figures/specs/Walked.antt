@@ -33,7 +33,7 @@ module _ (J : Job) (B : Bounding counts) (ceiling : ℕ) (ahead : Bool) where
     pub counted : (after n).steps ≡ n
 
   -- its n-th step is not the last; best and charge are what it has so far
-  pub record Goes_on (best : Option (List ℕ)) (charge n : ℕ) : Type 0 where
+  pub record GoesOn (best : Option (List ℕ)) (charge n : ℕ) : Type 0 where
     pub unfinished : ¬ ((after n).path ≡ [])
     pub found : (after n).best ≡ best
     pub charged : (after n).limit.number ≡ charge

@@ -5,7 +5,7 @@
 ghost use Rattle.std.specs.Prelude.{true, false};
 ghost use Rattle.std.proofs.Math.Option.{some, none};
 ghost use Rattle.walk_figures.specs.Jobs.{two_modules, three_modules};
-ghost use Rattle.walk_figures.specs.Walked.{past, forward, directed, Ends, Goes_on};
+ghost use Rattle.walk_figures.specs.Walked.{past, forward, directed, Ends, GoesOn};
 
 /// Two modules: a walk that does not look ahead finds setup (1, 0) of charge 0 in 6 steps, by each of the bounds.
 pub fn two_modules_end_at_1_0_in_6_steps() -> ([u8; 2], u16, u64)
@@ -42,7 +42,7 @@ pub fn none_is_below_0_in_2_steps() -> (u16, u64)
 
 /// After 4 of its 6 steps the walk by the forward bound goes on, with setup (0, 0) of charge 1 so far.
 pub fn after_4_steps_the_best_is_0_0() -> ([u8; 2], u16, u64)
-    ensures { Goes_on two_modules forward 65535 false (some result.0) result.1 result.2 }
+    ensures { GoesOn two_modules forward 65535 false (some result.0) result.1 result.2 }
 {
     ([0, 0], 1, 4)
 }

@@ -5,7 +5,7 @@ use Rattle.std.proofs.lemmas.Bool.{cases_lt}
 use Rattle.theory.specs.Machine.{Level, level, next, down}
 use Rattle.tables.specs.declared.modules.Modules.{Modules}
 use Rattle.walks.specs.Settings.{has, settings_from, domains_from, row_domains}
-use Rattle.walks.specs.Trails.{mask_at, level_at, levels, Live, AmongLive, tree, base, place, Goes_on, GoesDown}
+use Rattle.walks.specs.Trails.{mask_at, level_at, levels, Live, AmongLive, tree, base, place, GoesOn, GoesDown}
 
 -- a trail is as its settings and rows are
 pub levels_same : (path path' : List ℕ) (live live' : List (List ℕ)) (n d : ℕ)
@@ -127,14 +127,14 @@ settings_after mask a xs e =
 -- on to the setting k of module i
 pub goes_here : (path : List ℕ) (live : List (List ℕ)) (d i k : ℕ) → i < length path → i < d → d ≤ 20 → get_or path i 0 + 1 ≤ k → k < 8 → has (mask_at path live i i) k ≡ true
     → settings_from (has (mask_at path live i i)) (get_or path i 0 + 1) (8 - (get_or path i 0 + 1)) ≡ k ∷ settings_from (has (mask_at path live i i)) (suc k) (7 - k)
-    → Passes path live d (suc i) → Goes_on path live d (set path i k) live (suc i)
+    → Passes path live d (suc i) → GoesOn path live d (set path i k) live (suc i)
 goes_here path live d i k long l few above small h e p = record {
   next_one = λ n. next_here path live n i k long (settings_after (mask_at path live i i) (get_or path i 0) _ e) ∙ sym (p.nexts n);
   among = λ m a. live_here path live i k long (omega arith) m d l small h a;
   later = place_here path live i k long (omega arith) d (omega arith) p;
 }
 
-pub goes_out : (path : List ℕ) (live : List (List ℕ)) (d : ℕ) → Passes path live d 0 → Goes_on path live d path live 0
+pub goes_out : (path : List ℕ) (live : List (List ℕ)) (d : ℕ) → Passes path live d 0 → GoesOn path live d path live 0
 goes_out path live d p = record {
   next_one = λ n. sym (p.nexts n);
   among = λ m a. live_none m path live;
@@ -154,7 +154,7 @@ domains_first row d n xs l e =
     ap (row_domains row d) one ∙ domains_more (λ i. has (get_or row i 0)) d (n - suc d) ∙ ap (λ x. x ∷ row_domains row (suc d) (n - suc d)) e
 
 pub down_none : (path : List ℕ) (live : List (List ℕ)) (d : ℕ) (row path' : List ℕ) (live' : List (List ℕ)) (d' : ℕ) → settings_from (has (get_or row d 0)) 0 8 ≡ []
-    → Goes_on path live d path' live' d' → GoesDown path live d row path' live' d'
+    → GoesOn path live d path' live' d' → GoesDown path live d row path' live' d'
 down_none path live d row path' live' d' e g = record {
   first_one = λ n l. g.next_one n ∙ sym (ap (λ ds. down ds (levels path live n d)) (domains_first row d n [] l e));
   among = λ m l r a. g.among m a;

@@ -12,7 +12,7 @@ use Rattle.walks.specs.declared.state.Search.{Search}
 use Rattle.walks.specs.Settings.{has, domains_from, row_domains}
 use Rattle.walks.specs.declared.trail.Trail.{Trail}
 use Rattle.walks.specs.States.{problem, state_of, setup_of, SameWalk, OnlyMoved}
-use Rattle.walks.specs.Trails.{levels, Goes_on}
+use Rattle.walks.specs.Trails.{levels, GoesOn}
 use Rattle.walks.proofs.Steps.{same_state, step_weighs, step_looks, beginning_is}
 use Rattle.walks.proofs.Trails.{domains_more}
 
@@ -86,7 +86,7 @@ module _ {C : Type 0} (K : Kind) (means : C → K.V) (sheet : List ℕ) (s mid o
   same_through h g = record { modules = g.modules ∙ h.modules; ahead = g.ahead ∙ h.ahead; ceiling = g.ceiling ∙ h.ceiling }
 
   pub weighs_on : (W : Walk K.V) → Takes → OnlyMoved mid out
-      → Goes_on mid.trail.path mid.trail.live mid.trail.len out.trail.path out.trail.live out.trail.len
+      → GoesOn mid.trail.path mid.trail.live mid.trail.len out.trail.path out.trail.live out.trail.len
       → 1 ≤ s.trail.len → s.trail.len ≡ s.modules.count → s.trail.len ≤ length s.trail.path
       → state_of K means out ≡ step (problem K s.modules sheet (means s.ceiling)) W (state_of K means s)
   weighs_on W h moved on one full long =

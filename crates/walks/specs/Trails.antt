@@ -68,7 +68,7 @@ place path zero = tree 20
 place path (suc i) = base path (suc i)
 
 -- a trail went on as a walk's path does, among live settings, and stands later
-pub record Goes_on (path : List ℕ) (live : List (List ℕ)) (d : ℕ) (path' : List ℕ) (live' : List (List ℕ)) (d' : ℕ) : Type 0 where
+pub record GoesOn (path : List ℕ) (live : List (List ℕ)) (d : ℕ) (path' : List ℕ) (live' : List (List ℕ)) (d' : ℕ) : Type 0 where
   pub next_one : (n : ℕ) → levels path' live' n d' ≡ next (levels path live n d)
   pub among : (m : Modules) → AmongLive m path live d → AmongLive m path' live' d'
   pub later : base path d < place path' d'

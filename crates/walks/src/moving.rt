@@ -1,7 +1,7 @@
 // From one beginning to the next.
 ghost use Rattle.std.specs.Prelude.{◌≡◌, ℕ, suc, ◌-◌, ◌<◌, ◌≤◌, true, [], ◌∷◌, MatchOption, slice_index};
 ghost use Rattle.walks.specs.Settings.{has, settings_from, row_domains};
-ghost use Rattle.walks.specs.Trails.{Goes_on, GoesDown};
+ghost use Rattle.walks.specs.Trails.{GoesOn, GoesDown};
 ghost use Rattle.theory.specs.Machine.{next, down};
 
 use crate::trail::Trail;
@@ -32,7 +32,7 @@ impl Trail {
     pub(crate) fn next(&mut self)
         requires within { self.old.len ≤ 20 }
         requires few { (i : ℕ) → i < self.old.len → slice_index self.old.path i < 8 }
-        ensures { Goes_on self.old.path self.old.live self.old.len self.new.path self.new.live self.new.len }
+        ensures { GoesOn self.old.path self.old.live self.old.len self.new.path self.new.live self.new.len }
     {
         for i in (0..self.len).rev() {
             if let Some(k) = lowest(self.live[i][i], self.path[i] + 1) {

@@ -1,7 +1,7 @@
 // One step of a walk.
 ghost use Rattle.std.specs.Prelude.{◌≡◌, ℕ, ◌+◌, ◌<◌, ◌≤◌, length};
 ghost use Rattle.walks.specs.States.{problem, by, state_of, SameWalk, OnlyMoved};
-ghost use Rattle.walks.specs.Trails.{Goes_on, GoesDown, Live};
+ghost use Rattle.walks.specs.Trails.{GoesOn, GoesDown, Live};
 ghost use Rattle.tables.specs.Sheet.{Whole};
 ghost use Rattle.theory.specs.Machine.{Walk, step};
 
@@ -15,7 +15,7 @@ impl<C: Charge> Search<C> {
     fn go_on(&mut self)
         requires { 1 ≤ self.old.trail.len }
         ensures moved { OnlyMoved self.old self.new }
-        ensures goes_on { Goes_on self.old.trail.path self.old.trail.live self.old.trail.len self.new.trail.path self.new.trail.live self.new.trail.len }
+        ensures goes_on { GoesOn self.old.trail.path self.old.trail.live self.old.trail.len self.new.trail.path self.new.trail.live self.new.trail.len }
     {
         self.trail.next();
         self.steps += 1;

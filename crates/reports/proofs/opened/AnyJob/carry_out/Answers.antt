@@ -8,7 +8,7 @@ use Rattle.told.specs.declared.figure.Figure.{Figure}
 use Rattle.reports.specs.declared.opened.AnyJob.{AnyJob}
 use Rattle.reports.specs.declared.opened.AnyJob.TheVariants.{ByCount, BySum, ByWorst, ByRank}
 use Rattle.reports.specs.Figures.{count_said, sum_said, worst_said, rank_said}
-use Rattle.reports.specs.Sessions.{Carries, Goes_on}
+use Rattle.reports.specs.Sessions.{Carries, GoesOn}
 use Rattle.reports.proofs.Alike.{numbers_alike, ranks_alike}
 use Rattle.reports.proofs.opened.AnyJob.carry_out.Goals as goal
 
@@ -20,7 +20,7 @@ returns-in-ByCount c =
     let after = told.result.0 in
     let a = told.result.1 in
     let sheet' = told.new.sheet in
-    subst (λ (j : AnyJob). Goes_on j sheet call a (ByCount after) sheet') (sym c.in-ByCount.is)
+    subst (λ (j : AnyJob). GoesOn j sheet call a (ByCount after) sheet') (sym c.in-ByCount.is)
     (after, refl, subst (λ (f : Capped 65535 → Figure). Carries counts (λ s. capped 65535 s.number) (λ v. record { number = v.number }) f count_said 192 c.in-ByCount.job sheet call a after sheet') (numbers_alike 65535) told.ensures)
 
 pub returns-in-BySum : goal.returns-in-BySum
@@ -31,7 +31,7 @@ returns-in-BySum c =
     let after = told.result.0 in
     let a = told.result.1 in
     let sheet' = told.new.sheet in
-    subst (λ (j : AnyJob). Goes_on j sheet call a (BySum after) sheet') (sym c.in-BySum.is)
+    subst (λ (j : AnyJob). GoesOn j sheet call a (BySum after) sheet') (sym c.in-BySum.is)
     (after, refl, subst (λ (f : Capped 4294967295 → Figure). Carries sums (λ s. capped 4294967295 s.number) (λ v. record { number = v.number }) f sum_said 192 c.in-BySum.job sheet call a after sheet') (numbers_alike 4294967295) told.ensures)
 
 pub returns-in-ByWorst : goal.returns-in-ByWorst
@@ -42,7 +42,7 @@ returns-in-ByWorst c =
     let after = told.result.0 in
     let a = told.result.1 in
     let sheet' = told.new.sheet in
-    subst (λ (j : AnyJob). Goes_on j sheet call a (ByWorst after) sheet') (sym c.in-ByWorst.is)
+    subst (λ (j : AnyJob). GoesOn j sheet call a (ByWorst after) sheet') (sym c.in-ByWorst.is)
     (after, refl, subst (λ (f : Capped 65535 → Figure). Carries worsts (λ s. capped 65535 s.number) (λ v. record { number = v.number }) f worst_said 192 c.in-ByWorst.job sheet call a after sheet') (numbers_alike 65535) told.ensures)
 
 pub returns-in-ByRank : goal.returns-in-ByRank
@@ -53,5 +53,5 @@ returns-in-ByRank c =
     let after = told.result.0 in
     let a = told.result.1 in
     let sheet' = told.new.sheet in
-    subst (λ (j : AnyJob). Goes_on j sheet call a (ByRank after) sheet') (sym c.in-ByRank.is)
+    subst (λ (j : AnyJob). GoesOn j sheet call a (ByRank after) sheet') (sym c.in-ByRank.is)
     (after, refl, subst (λ (f : Rank → Figure). Carries ranks (λ s. rank s.forbidden s.soft) (λ v. record { forbidden = v.forbidden; soft = v.soft }) f rank_said 192 c.in-ByRank.job sheet call a after sheet') ranks_alike told.ensures)
