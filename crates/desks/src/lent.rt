@@ -1,11 +1,11 @@
 // A ticket of any number.
-ghost use Rattle.jobs.specs.Searching.{is_open};
+ghost use Rattle.walk_jobs.specs.Searching.{is_open};
 ghost use Rattle.std.specs.Prelude.{◌≡◌, true};
 
 use charges::Count;
 use floors::Past;
-use jobs::job::Job;
-use jobs::ticket::Ticket;
+use walk_jobs::job::Job;
+use walk_jobs::ticket::Ticket;
 use tables::sheet::ENTRIES;
 use walks::ways::Plain;
 

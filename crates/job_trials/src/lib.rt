@@ -3,12 +3,11 @@
 
 #[cfg(test)]
 mod tests {
-    use charges::Count;
     use floors::Past;
-    use jobs::job::Job;
+    use charges::Count;
+    use jobs::job::{Job, Plain};
     use jobs::refusal::Refusal;
     use std::process::Abort;
-    use walks::ways::Plain;
 
     // A job that counts clashes.
     type Counted = Job<Count, Plain<Past>>;

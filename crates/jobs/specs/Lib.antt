@@ -1,3 +1,2 @@
 pub mod Refusals
 pub mod Checks
-pub mod Searching

@@ -1,3 +1,1 @@
 pub mod Tellings
-pub mod Endings
-pub mod Alike

@@ -7,6 +7,4 @@ pub mod opened;
 pub mod program;
 pub mod script;
 pub mod session;
-pub mod told;
 pub mod walked;
-pub mod walking;

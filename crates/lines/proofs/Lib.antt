@@ -1,0 +1,5 @@
+pub mod Splitting
+pub mod Reading
+pub mod Rows
+pub mod Named
+pub mod Spacing

@@ -1,0 +1,72 @@
+-- The calls that words say.
+use Rattle.std.specs.Prelude.{◌≡◌, ℕ, Bool, true, false, ◌&&◌, List, [], ◌∷◌, length, codes}
+use Rattle.lines.specs.Words.{Word}
+use Rattle.lines.specs.Numbers.{Number}
+use Rattle.lines.specs.Names.{kind_word, walks_word, bound_word}
+use Rattle.lines.specs.declared.call.Walks.{Walks}
+use Rattle.lines.specs.declared.call.Walks.TheVariants.{Plain, Both}
+use Rattle.lines.specs.declared.call.SimpleBound.{SimpleBound}
+use Rattle.lines.specs.declared.call.SimpleBound.TheVariants.{Past, Forward, Directed}
+use Rattle.lines.specs.declared.call.BoundName.{BoundName}
+use Rattle.lines.specs.declared.call.BoundName.TheVariants.{One, Higher}
+use Rattle.lines.specs.declared.call.Call.{Call}
+use Rattle.lines.specs.declared.call.Call.TheVariants.{Open, Add, Charge, Narrow, Weigh, WhatIf, Floor, FloorWith}
+
+-- the words for each bound
+abbrev pub bound_words : BoundName → List Word
+bound_words (One a) = bound_word a ∷ []
+bound_words (Higher a b) = codes "higher" ∷ bound_word a ∷ bound_word b ∷ []
+
+-- whether a bound of one word is a setting bound
+abbrev pub setting_one : SimpleBound → Bool
+setting_one Past = false
+setting_one Forward = true
+setting_one Directed = true
+
+-- whether a bound is a setting bound: the higher of two is one if both are
+abbrev pub setting : BoundName → Bool
+setting (One a) = setting_one a
+setting (Higher a b) = setting_one a && setting_one b
+
+-- whether a bound may stand with the walks: both walks take a setting bound only
+abbrev pub allowed : Walks → BoundName → Bool
+allowed Plain b = true
+allowed Both b = setting b
+
+-- the row has the numbers that the words write, and then zeros
+abbrev pub Fills : List Word → List ℕ → Type 0
+Fills [] [] = Unit {0}
+Fills [] (x ∷ row) = (x ≡ 0) × Fills [] row
+Fills (w ∷ ws) [] = ⊥
+Fills (w ∷ ws) (x ∷ row) = Number 255 w x × Fills ws row
+
+-- the words fill a row of twenty bytes
+abbrev pub Row : List Word → List ℕ → Type 0
+Row ws row = (length row ≡ 20) × Fills ws row
+
+-- the first word of each call
+abbrev pub name : Call → Word
+name (Open n k w b) = codes "open"
+name (Add s) = codes "add"
+name (Charge i k j l e) = codes "charge"
+name (Narrow i m) = codes "narrow"
+name (Weigh row) = codes "weigh"
+name (WhatIf i k row) = codes "what-if"
+name (Floor path len) = codes "floor"
+name (FloorWith j k path len) = codes "floor-with"
+
+-- the words after the first say the arguments of the call
+abbrev pub Args : List Word → Call → Type 0
+Args ws (Open n k w b) = (x : Word) × (ws ≡ x ∷ kind_word k ∷ walks_word w ∷ bound_words b) × Number 4294967295 x n × (allowed w b ≡ true)
+Args ws (Add s) = (x : Word) × (ws ≡ x ∷ []) × Number 255 x s
+Args ws (Charge i k j l e) = (x y z u v : Word) × (ws ≡ x ∷ y ∷ z ∷ u ∷ v ∷ []) × Number 255 x i × Number 255 y k × Number 255 z j × Number 255 u l × Number 65535 v e
+Args ws (Narrow i m) = (x y : Word) × (ws ≡ x ∷ y ∷ []) × Number 255 x i × Number 255 y m
+Args ws (Weigh row) = Row ws row
+Args ws (WhatIf i k row) = (x y : Word) × (rest : List Word) × (ws ≡ x ∷ y ∷ rest) × Number 255 x i × Number 255 y k × Row rest row
+Args ws (Floor path len) = Row ws path × (length ws ≡ len)
+Args ws (FloorWith j k path len) = (x y : Word) × (rest : List Word) × (ws ≡ x ∷ y ∷ rest) × Number 255 x j × Number 255 y k × Row rest path × (length rest ≡ len)
+
+-- the words say the call: its first word, and then its arguments
+abbrev pub Says : List Word → Call → Type 0
+Says [] c = ⊥
+Says (w ∷ ws) c = (w ≡ name c) × Args ws c

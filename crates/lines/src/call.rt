@@ -1,0 +1,76 @@
+// The calls that a line of a script can say.
+
+/// The kind of charge that a setup is opened with.
+#[derive(Clone, Copy)]
+pub enum KindName {
+    Count,
+    Sum,
+    Worst,
+    Ranked,
+}
+
+/// Which walks a setup is opened with.
+#[derive(Clone, Copy)]
+pub enum Walks {
+    Plain,
+    Both,
+}
+
+/// A bound that one word names.
+#[derive(Clone, Copy)]
+pub enum SimpleBound {
+    Past,
+    Forward,
+    Directed,
+}
+
+/// One bound, or the higher of two.
+#[derive(Clone, Copy)]
+pub enum BoundName {
+    One(SimpleBound),
+    Higher(SimpleBound, SimpleBound),
+}
+
+/// A call, with its arguments. A row and a path have twenty bytes: the settings that were written, and then zeros.
+/// The `len` of a path is how many were written.
+#[derive(Clone, Copy)]
+pub enum Call {
+    Open {
+        number: u32,
+        kind: KindName,
+        walks: Walks,
+        bound: BoundName,
+    },
+    Add {
+        settings: u8,
+    },
+    Charge {
+        i: u8,
+        k: u8,
+        j: u8,
+        l: u8,
+        clash: u16,
+    },
+    Narrow {
+        i: u8,
+        mask: u8,
+    },
+    Weigh {
+        row: [u8; 20],
+    },
+    WhatIf {
+        i: u8,
+        k: u8,
+        row: [u8; 20],
+    },
+    Floor {
+        path: [u8; 20],
+        len: u8,
+    },
+    FloorWith {
+        j: u8,
+        k: u8,
+        path: [u8; 20],
+        len: u8,
+    },
+}

@@ -1,0 +1,9 @@
+// perform: carries out a script of calls from standard input, and prints each call with its answer.
+#![tactic(auto)]
+
+use walk_reports::program::perform;
+use std::io;
+
+fn main(rt: HostRuntime) -> io::Result<()> {
+    perform(&rt)
+}

@@ -1,0 +1,4 @@
+// The bounds that a script names.
+#![tactic(auto)]
+
+pub mod names;

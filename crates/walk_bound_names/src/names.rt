@@ -1,0 +1,218 @@
+// Bounds by their names.
+ghost use Rattle.walk_bound_names.specs.Bounds.{simple_floor, named_floor, simple_with, named_with, simple_of, bound_of};
+ghost use Rattle.calls.specs.Calls.{setting_one, setting};
+ghost use Rattle.std.specs.Prelude.{◌≡◌, true, false, MatchOption};
+ghost use Rattle.std.proofs.Common.{sym, subst};
+ghost use Rattle.charges.specs.Kinds.{AtMost};
+ghost use Rattle.tables.specs.Setups.{charge_of};
+ghost use Rattle.walk_bound_names.specs.Laws.{simple_lawful, named_lawful, simple_with_lawful, named_with_lawful};
+
+use bounds::bound::Bound;
+use bounds::setting::SettingBound;
+use calls::call::{BoundName, SimpleBound};
+use charges::Charge;
+use floors::{Directed, Forward, Past};
+use higher::Higher;
+use tables::modules::Modules;
+
+/// A setting bound that one word names.
+#[derive(Clone, Copy)]
+pub enum SettingOne {
+    ByForward,
+    ByDirected,
+}
+
+/// A setting bound, or the higher of two.
+#[derive(Clone, Copy)]
+pub enum SettingName {
+    Single(SettingOne),
+    Pair(SettingOne, SettingOne),
+}
+
+fn setting_one(bound: SimpleBound) -> Option<SettingOne>
+    ensures { MatchOption result (setting_one bound ≡ false) (λ s. (simple_of s ≡ bound) × (setting_one bound ≡ true)) }
+{
+    match bound {
+        SimpleBound::Past => None,
+        SimpleBound::Forward => Some(SettingOne::ByForward),
+        SimpleBound::Directed => Some(SettingOne::ByDirected),
+    }
+}
+
+/// The setting bound of that name, if it is one.
+pub fn setting_name(bound: BoundName) -> Option<SettingName>
+    ensures { MatchOption result (setting bound ≡ false) (λ s. (bound_of s ≡ bound) × (setting bound ≡ true)) }
+{
+    match bound {
+        BoundName::One(a) => {
+            let one = setting_one(a)?;
+            Some(SettingName::Single(one))
+        }
+        BoundName::Higher(a, b) => {
+            let first = setting_one(a)?;
+            let second = setting_one(b)?;
+            Some(SettingName::Pair(first, second))
+        }
+    }
+}
+
+/// A bound that one word names.
+#[derive(Clone, Copy)]
+pub struct Simple {
+    pub bound: SimpleBound,
+}
+
+/// The bound of a name.
+#[derive(Clone, Copy)]
+pub struct Named {
+    pub bound: BoundName,
+}
+
+impl<C: Charge> Bound<C> for Simple {
+    ghost floor = { λ b m sheet p. C.Charge.made (simple_floor C.Charge.kind b.bound m sheet p) };
+
+    ghost lawful = { λ b m sheet p s begins starts fine.
+        let K = C.Charge.kind in
+        subst (λ x. AtMost K x (charge_of K sheet s m.count)) (sym (C.Charge.stands (simple_floor K b.bound m sheet p)))
+        (simple_lawful K C.Charge.lawful m sheet p s begins.within starts fine b.bound) };
+
+    fn floor_of(
+        &self,
+        modules: &Modules,
+        sheet: &[u16],
+        path: [u8; 20],
+        len: usize,
+        scratch: &mut [C],
+    ) -> C {
+        match self.bound {
+            SimpleBound::Past => Past {}.floor_of(modules, sheet, path, len, scratch),
+            SimpleBound::Forward => Forward {}.floor_of(modules, sheet, path, len, scratch),
+            SimpleBound::Directed => Directed {}.floor_of(modules, sheet, path, len, scratch),
+        }
+    }
+}
+
+impl<C: Charge> Bound<C> for Named {
+    ghost floor = { λ b m sheet p. C.Charge.made (named_floor C.Charge.kind b.bound m sheet p) };
+
+    ghost lawful = { λ b m sheet p s begins starts fine.
+        let K = C.Charge.kind in
+        subst (λ x. AtMost K x (charge_of K sheet s m.count)) (sym (C.Charge.stands (named_floor K b.bound m sheet p)))
+        (named_lawful K C.Charge.lawful m sheet p s begins.within starts fine b.bound) };
+
+    fn floor_of(
+        &self,
+        modules: &Modules,
+        sheet: &[u16],
+        path: [u8; 20],
+        len: usize,
+        scratch: &mut [C],
+    ) -> C {
+        match self.bound {
+            BoundName::One(a) => Simple { bound: a }.floor_of(modules, sheet, path, len, scratch),
+            BoundName::Higher(a, b) => {
+                let pair = Higher {
+                    first: Simple { bound: a },
+                    second: Simple { bound: b },
+                };
+                pair.floor_of(modules, sheet, path, len, scratch)
+            }
+        }
+    }
+}
+
+impl<C: Charge> Bound<C> for SettingOne {
+    ghost floor = { λ b m sheet p. C.Charge.made (simple_floor C.Charge.kind (simple_of b) m sheet p) };
+
+    ghost lawful = { λ b m sheet p s begins starts fine.
+        let K = C.Charge.kind in
+        subst (λ x. AtMost K x (charge_of K sheet s m.count)) (sym (C.Charge.stands (simple_floor K (simple_of b) m sheet p)))
+        (simple_lawful K C.Charge.lawful m sheet p s begins.within starts fine (simple_of b)) };
+
+    fn floor_of(
+        &self,
+        modules: &Modules,
+        sheet: &[u16],
+        path: [u8; 20],
+        len: usize,
+        scratch: &mut [C],
+    ) -> C {
+        match *self {
+            SettingOne::ByForward => Forward {}.floor_of(modules, sheet, path, len, scratch),
+            SettingOne::ByDirected => Directed {}.floor_of(modules, sheet, path, len, scratch),
+        }
+    }
+}
+
+impl<C: Charge> SettingBound<C> for SettingOne {
+    ghost answer = { λ b m sheet p j k. C.Charge.made (simple_with C.Charge.kind b m sheet p j k) };
+
+    ghost lawful_with = { λ b m sheet p s j k begins starts fine is.
+        let K = C.Charge.kind in
+        subst (λ x. AtMost K x (charge_of K sheet s m.count)) (sym (C.Charge.stands (simple_with K b m sheet p j k)))
+        (simple_with_lawful K C.Charge.lawful m sheet p s begins.within starts fine j k is b) };
+
+    fn prepare(
+        &self,
+        modules: &Modules,
+        sheet: &[u16],
+        path: [u8; 20],
+        len: usize,
+        scratch: &mut [C],
+    ) -> C {
+        match *self {
+            SettingOne::ByForward => Forward {}.prepare(modules, sheet, path, len, scratch),
+            SettingOne::ByDirected => Directed {}.prepare(modules, sheet, path, len, scratch),
+        }
+    }
+}
+
+impl<C: Charge> Bound<C> for SettingName {
+    ghost floor = { λ b m sheet p. C.Charge.made (named_floor C.Charge.kind (bound_of b) m sheet p) };
+
+    ghost lawful = { λ b m sheet p s begins starts fine.
+        let K = C.Charge.kind in
+        subst (λ x. AtMost K x (charge_of K sheet s m.count)) (sym (C.Charge.stands (named_floor K (bound_of b) m sheet p)))
+        (named_lawful K C.Charge.lawful m sheet p s begins.within starts fine (bound_of b)) };
+
+    fn floor_of(
+        &self,
+        modules: &Modules,
+        sheet: &[u16],
+        path: [u8; 20],
+        len: usize,
+        scratch: &mut [C],
+    ) -> C {
+        match *self {
+            SettingName::Single(a) => a.floor_of(modules, sheet, path, len, scratch),
+            SettingName::Pair(first, second) => Higher { first, second }.floor_of(
+                modules, sheet, path, len, scratch,
+            ),
+        }
+    }
+}
+
+impl<C: Charge> SettingBound<C> for SettingName {
+    ghost answer = { λ b m sheet p j k. C.Charge.made (named_with C.Charge.kind b m sheet p j k) };
+
+    ghost lawful_with = { λ b m sheet p s j k begins starts fine is.
+        let K = C.Charge.kind in
+        subst (λ x. AtMost K x (charge_of K sheet s m.count)) (sym (C.Charge.stands (named_with K b m sheet p j k)))
+        (named_with_lawful K C.Charge.lawful m sheet p s begins.within starts fine j k is b) };
+
+    fn prepare(
+        &self,
+        modules: &Modules,
+        sheet: &[u16],
+        path: [u8; 20],
+        len: usize,
+        scratch: &mut [C],
+    ) -> C {
+        match *self {
+            SettingName::Single(a) => a.prepare(modules, sheet, path, len, scratch),
+            SettingName::Pair(first, second) => Higher { first, second }.prepare(
+                modules, sheet, path, len, scratch,
+            ),
+        }
+    }
+}

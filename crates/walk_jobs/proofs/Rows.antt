@@ -1,0 +1,40 @@
+-- What `has_all` says of each module.
+use Rattle.std.proofs.Common.{◌≡◌, ℕ, zero, suc, ◌+◌, ◌<◌, ◌≤◌, true, false, ◌&&◌, List, length, get_or, sym, refl, ap, ◌∙◌, ⊎_elim, add-one, arith}
+use Rattle.std.proofs.lemmas.Bool.{and_parts, and_left, and_right, ltb-true, cases_lt}
+use Rattle.tables.specs.declared.modules.Modules.{Modules}
+use Rattle.tables.specs.Modules.{settings_of, module_of}
+use Rattle.tables.specs.Sheet.{Whole}
+use Rattle.tables.specs.Setups.{Holds}
+use Rattle.walk_jobs.specs.Checks.{has, has_all}
+
+pub has_all_more : (m : Modules) (row : List ℕ) (n : ℕ) → has_all m row (n + 1) ≡ has_all m row n && has m n (get_or row n 0)
+has_all_more m row n = rw add-one refl
+
+pub has_all_fails : (m : Modules) (row : List ℕ) (n i : ℕ) → i < n → has m i (get_or row i 0) ≡ false → has_all m row n ≡ false
+has_all_fails m row zero i l h = absurd (omega arith)
+has_all_fails m row (suc n) i l h = ⊎_elim
+    (λ below. and_left (has_all m row n) (has m n (get_or row n 0)) (has_all_fails m row n i below h))
+    (λ above.
+    let e : n ≡ i = omega arith in
+    and_right (has_all m row n) (has m n (get_or row n 0)) (ap (λ x. has m x (get_or row x 0)) e ∙ h))
+    (cases_lt i n)
+
+has_each : (m : Modules) (row : List ℕ) (n i : ℕ) → i < n → has_all m row n ≡ true → get_or row i 0 < settings_of m i
+has_each m row zero i l h = absurd (omega arith)
+has_each m row (suc n) i l h =
+    let parts = and_parts (has_all m row n) (has m n (get_or row n 0)) h in
+    ⊎_elim
+    (λ below. has_each m row n i below parts.0)
+    (λ above.
+    let e : n ≡ i = omega arith in
+    ltb-true (get_or row i 0) (settings_of m i) (ap (λ x. has m x (get_or row x 0)) (sym e) ∙ parts.1))
+    (cases_lt i n)
+
+-- a row that has a setting for each module can be weighed
+pub row_holds : (m : Modules) (sheet row : List ℕ) → Whole sheet → 20 ≤ length row → has_all m row m.count ≡ true → Holds sheet row m.count
+row_holds m sheet row whole long h = record {
+  whole = whole;
+  long = omega (arith, m.few);
+  few = m.few;
+  fit = λ i l. omega (arith, has_each m row m.count i l h, (module_of m i).few);
+}

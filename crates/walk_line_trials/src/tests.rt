@@ -1,0 +1,190 @@
+// Lines that are calls, that are none and that are skipped; what calls are read as, and what is reported.
+use answers::answer::Answer;
+use answers::report::report;
+use calls::call::{BoundName, Call, KindName, SimpleBound, Walks};
+use walk_lines::line::{Line, read_call, read_line};
+use std::test::Fail;
+use told::figure::Figure;
+
+const CALLS: [&str; 22] = [
+    "open 7 count plain past",
+    "open 4294967295 sum both forward",
+    "open 0 worst both directed",
+    "open 1 ranked plain higher past forward",
+    "open 1 ranked both higher directed forward",
+    "  add   003  ",
+    "add 255",
+    "charge 0 1 2 3 65535",
+    "charge 255 255 255 255 0",
+    "narrow 1 255",
+    "narrow 001 0",
+    "weigh",
+    "weigh 1 2 3",
+    "weigh 1 2 3 4 5 6 7 8 9 10 11 12 13 14 15 16 17 18 19 20",
+    "what-if 1 2",
+    "what-if 1 2 255 0 9",
+    "floor",
+    "floor 255 0 09",
+    "floor 1 2 3 4 5 6 7 8 9 10 11 12 13 14 15 16 17 18 19 20",
+    "floor-with 1 2",
+    "floor-with 255 0 255 0 9",
+    "floor-with 1 2 1 2 3 4 5 6 7 8 9 10 11 12 13 14 15 16 17 18 19 20",
+];
+
+const NO_CALLS: [&str; 33] = [
+    "open 4294967296 count plain past",
+    "open 7 counts plain past",
+    "open 7 count neither past",
+    "open 7 count plain",
+    "open 7 count plain past past",
+    "open 7 count both past",
+    "open 7 count both higher past forward",
+    "open 7 count both higher forward past",
+    "open 7 count plain higher forward",
+    "open 7 count plain higher higher past",
+    "add",
+    "add 256",
+    "add +5",
+    "add -1",
+    "add 5x",
+    "add 5 5",
+    "Add 5",
+    "charge 0 1 2 3 65536",
+    "charge 0 1 2 256 1",
+    "charge 0 1 2 3",
+    "narrow 1 2 3",
+    "weigh 1 2 3 4 5 6 7 8 9 10 11 12 13 14 15 16 17 18 19 20 21",
+    "what-if 1",
+    "floor 1 2 3 4 5 6 7 8 9 10 11 12 13 14 15 16 17 18 19 20 21",
+    "floor 256",
+    "floor 1 2x",
+    "floor-with",
+    "floor-with 1",
+    "floor-with 256 2",
+    "floor-with 1 256",
+    "floor-with 1 2 256",
+    "floor-with 1 2 1 2 3 4 5 6 7 8 9 10 11 12 13 14 15 16 17 18 19 20 21",
+    "floor-without 1 2",
+];
+
+const SKIPPED: [&str; 5] = ["", "   ", "#", "# add 5", "  #add 5"];
+
+#[test]
+fn lines_are_told_apart(rt: HostRuntime) {
+    for line in CALLS {
+        assert!(rt; matches!(read_line(line), Line::Call(_)), "{}", line);
+    }
+    for line in NO_CALLS {
+        assert!(rt; matches!(read_line(line), Line::NoCall), "{}", line);
+    }
+    for line in SKIPPED {
+        assert!(rt; matches!(read_line(line), Line::Skipped), "{}", line);
+    }
+}
+
+fn row_of(line: &str) -> Option<[u8; 20]> {
+    match read_call(line) {
+        Some(Call::Weigh { row }) => Some(row),
+        Some(Call::WhatIf { i: 1, k: 2, row }) => Some(row),
+        _ => None,
+    }
+}
+
+fn path_of(line: &str) -> Option<([u8; 20], u8)> {
+    match read_call(line) {
+        Some(Call::Floor { path, len }) => Some((path, len)),
+        Some(
+            Call::FloorWith {
+                j: 1,
+                k: 2,
+                path,
+                len,
+            },
+        ) => Some((path, len)),
+        _ => None,
+    }
+}
+
+#[test]
+fn paths_have_their_length(rt: HostRuntime) -> Result<(), Fail> {
+    let (path, len) = path_of("floor").ok_or("no path")?;
+    assert!(rt; len == 0 && path[0] == 0 && path[19] == 0);
+    let (path, len) = path_of("floor 7 8 0").ok_or("no path")?;
+    assert!(rt; len == 3 && path[0] == 7 && path[1] == 8 && path[2] == 0 && path[19] == 0);
+    let (path, len) = path_of("floor 1 2 3 4 5 6 7 8 9 10 11 12 13 14 15 16 17 18 19 20").ok_or(
+        "no path",
+    )?;
+    assert!(rt; len == 20 && path[0] == 1 && path[19] == 20);
+    let (path, len) = path_of("floor-with 1 2").ok_or("no path")?;
+    assert!(rt; len == 0 && path[0] == 0 && path[19] == 0);
+    let (path, len) = path_of("floor-with 1 2 9").ok_or("no path")?;
+    assert!(rt; len == 1 && path[0] == 9 && path[1] == 0 && path[19] == 0);
+    let (path, len) = path_of(
+        "floor-with 1 2 1 2 3 4 5 6 7 8 9 10 11 12 13 14 15 16 17 18 19 20",
+    ).ok_or("no path")?;
+    assert!(rt; len == 20 && path[0] == 1 && path[19] == 20);
+    Ok(())
+}
+
+#[test]
+fn calls_have_their_arguments(rt: HostRuntime) -> Result<(), Fail> {
+    assert!(rt;
+        matches!(
+            read_call("open 7 count both higher forward directed"),
+            Some(Call::Open {
+                number: 7,
+                kind: KindName::Count,
+                walks: Walks::Both,
+                bound: BoundName::Higher(SimpleBound::Forward, SimpleBound::Directed),
+            })
+        )
+    );
+    assert!(rt; matches!(read_call(" add  003 "), Some(Call::Add { settings: 3 })));
+    assert!(rt;
+        matches!(
+            read_call("charge 1 2 3 4 500"),
+            Some(Call::Charge {
+                i: 1,
+                k: 2,
+                j: 3,
+                l: 4,
+                clash: 500
+            })
+        )
+    );
+    assert!(rt;
+        matches!(
+            read_call("narrow 1 6"),
+            Some(Call::Narrow { i: 1, mask: 6 })
+        )
+    );
+    let row = row_of("weigh 7 8").ok_or("no row")?;
+    assert!(rt; row[0] == 7 && row[1] == 8 && row[2] == 0 && row[19] == 0);
+    let row = row_of("what-if 1 2 9").ok_or("no row")?;
+    assert!(rt; row[0] == 9 && row[1] == 0 && row[19] == 0);
+    Ok(())
+}
+
+#[test]
+fn reports_are_written(rt: HostRuntime) -> Result<(), Fail> {
+    let table = [
+        ("  add   3 ", Answer::Done, "add 3 -> ok"),
+        ("add 4", Answer::Module(3), "add 4 -> module 3"),
+        (
+            "weigh",
+            Answer::Charge(Figure::One(50)),
+            "weigh -> charge 50",
+        ),
+        (
+            "weigh 1",
+            Answer::Charge(Figure::Two(0, 50)),
+            "weigh 1 -> charge 0 50",
+        ),
+        ("narrow 9 9", Answer::Refused(7), "narrow 9 9 -> refused 7"),
+        ("what?", Answer::NotACall, "what? -> not a call"),
+    ];
+    for (line, answer, text) in table {
+        assert!(rt; report(rt.alloc(), line, answer)? == text, "{}", text);
+    }
+    Ok(())
+}

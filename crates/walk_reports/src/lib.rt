@@ -1,0 +1,12 @@
+// Carrying out the lines of a script of calls.
+#![tactic(auto)]
+
+pub mod calling;
+pub mod figured;
+pub mod opened;
+pub mod program;
+pub mod script;
+pub mod session;
+pub mod told;
+pub mod walked;
+pub mod walking;

@@ -1,0 +1,9 @@
+// A script of random calls, whose answers were made by the independent implementation in reference/.
+#![tactic(auto)]
+
+use walk_reports::program::perform;
+use std::io;
+
+fn main(rt: HostRuntime) -> io::Result<()> {
+    perform(&rt)
+}
