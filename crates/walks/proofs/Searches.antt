@@ -2,15 +2,11 @@
 use Rattle.std.proofs.Common.{◌≡◌, ℕ, zero, suc, ◌+◌, ◌-◌, ◌<◌, ◌≤◌, List, [], get_or, subst, arith}
 use Rattle.tables.specs.declared.modules.Modules.{Modules}
 use Rattle.walks.specs.declared.state.Search.{Search}
-use Rattle.walks.specs.Trails.{Live, AmongLive, EachFew, EachTaken, EachSome, EachByte, EachAllowed, base, place}
-use Rattle.walks.proofs.Among.{together, each_some, each_byte, each_allowed, place_few, tree_small, live_below}
+use Rattle.walks.specs.Trails.{Live, AmongLive, base, place}
+use Rattle.walks.proofs.Among.{together, place_few, tree_small, live_below}
 
 pub among : {C : Type 0} (s : Search C) → AmongLive s.modules s.trail.path s.trail.live s.trail.len
 among s = together s.modules s.trail.path s.trail.live s.trail.len s.within s.few s.taken s.some s.byte s.allowed
-
-pub facts : (m : Modules) (path : List ℕ) (live : List (List ℕ)) (d steps : ℕ) → AmongLive m path live d → steps < place path d
-    → (d ≤ m.count) × (EachFew m path live d × (EachTaken m path live d × (EachSome m path live d × (EachByte m path live d × (EachAllowed m path live d × ((steps < place path d) × Unit {0}))))))
-facts m path live d steps h l = (h.within, (h.few, (h.taken, (each_some m path live d h, (each_byte m path live d h, (each_allowed m path live d h, (l, tt)))))))
 
 pub steps_fit : {C : Type 0} (s : Search C) → s.steps + 1 < 18446744073709551616
 steps_fit s =

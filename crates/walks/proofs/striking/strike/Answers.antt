@@ -31,11 +31,11 @@ loop-k-preserved g c =
     let long : j < length still = omega (arith, h.long, c.requires.space.1) in (
       c.loop-k.invariant.0,
       elim c.if-has.branch [
-        | then-has+then-is-over+else-still-j-eq0 w ↦
+        | then-has+then-is_over+else-still-j-eq0 w ↦
             struck_on K limit answer c.args.row c.args.from c.args.count still j k from upto few h long (sym w.if-has.ensures) (is_over (under K limit (answer j k)) w.if-is_over.ensures)
             _ _ (one_shl k 8 few) w.still-is w.if-still-j-eq0.false
         | else-has w ↦ subst (Struck K limit answer c.args.row c.args.from c.args.count (8 * j + (k + 1))) (sym w.still-is) (elim w.else-has.branch [
-          | else-has-via-then-has+else-is-over w' ↦ passes_under K limit answer c.args.row c.args.from c.args.count still j k from upto few h (not_over (under K limit (answer j k)) w'.if-is-over.ensures)
+          | else-has-via-then-has+else-is_over w' ↦ passes_under K limit answer c.args.row c.args.from c.args.count still j k from upto few h (not_over (under K limit (answer j k)) w'.if-is_over.ensures)
           | else-has-via-else-has w' ↦ passes_dead K limit answer c.args.row c.args.from c.args.count still j k from upto few h (sym w'.if-has.ensures)
         ])
       ],
@@ -49,7 +49,7 @@ modules-preserved g c =
 pub returns-then-dead : goal.returns-then-dead
 returns-then-dead g c = elim c.modules-test.branch [
   | else-modules-test w ↦ absurd (both_ways c.modules-test.dead (w.dead-is ∙ c.modules.invariant.0) c.if-dead.true)
-  | then-modules-test+then-loop-k-test+then-has+then-is-over+then-still-j-eq0 w ↦
+  | then-modules-test+then-loop-k-test+then-has+then-is_over+then-still-j-eq0 w ↦
       let K = g.C.Charge.kind in
       let limit = g.C.Charge.means c.args.limit in
       let answer = answer_at K g.C.Charge.means g.C.Charge.made c.args.answers.now in
@@ -62,5 +62,5 @@ returns-then-dead g c = elim c.modules-test.branch [
 pub returns-else-dead : goal.returns-else-dead
 returns-else-dead g c = elim c.modules-test.branch [
   | else-modules-test w ↦ subst (Leaves _ _ _ _ _ _) (sym w.still-is) (struck_all _ _ _ _ _ _ _ _ (omega (arith, w.modules-test.false)) c.modules.invariant.1)
-  | then-modules-test+then-loop-k-test+then-has+then-is-over+then-still-j-eq0 w ↦ absurd (both_ways c.modules-test.dead c.if-dead.false w.dead-is)
+  | then-modules-test+then-loop-k-test+then-has+then-is_over+then-still-j-eq0 w ↦ absurd (both_ways c.modules-test.dead c.if-dead.false w.dead-is)
 ]

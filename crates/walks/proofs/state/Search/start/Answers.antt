@@ -1,11 +1,21 @@
 use Rattle.std.proofs.Common.{refl}
-use Rattle.walks.proofs.Searches.{facts}
+use Rattle.walks.proofs.Among.{each_some, each_byte, each_allowed}
 use Rattle.walks.proofs.Started.{first_live, first_path}
 use Rattle.walks.proofs.Steps.{same_state}
 use Rattle.walks.proofs.state.Search.start.Goals as goal
 
 pub invariant_of-result : goal.invariant_of-result
-invariant_of-result g c = facts c.args.modules.now _ _ _ 0 (first_live c.args.modules.now _ c.masks.ensures _ _ _ _ _ c.requires c.down.ensures) c.down.ensures.later
+invariant_of-result g c =
+    let h = first_live c.args.modules.now _ c.masks.ensures _ _ _ _ _ c.requires c.down.ensures in
+    record {
+      within = h.within;
+      few = h.few;
+      taken = h.taken;
+      some = each_some _ _ _ _ h;
+      byte = each_byte _ _ _ _ h;
+      allowed = each_allowed _ _ _ _ h;
+      counted = c.down.ensures.later;
+    }
 
 pub returns : goal.returns
 returns g c = record {
