@@ -1,5 +1,5 @@
 -- The count of clashes, which stops at 65,535.
-use Rattle.std.specs.Prelude.{ℕ, cond, ◌==◌}
+use Rattle.std.specs.Prelude.{cond, ◌==◌}
 use Rattle.charges.specs.Kinds.{Kind}
 use Rattle.charges.specs.Capped.{Capped, capped, add, no_more}
 

@@ -1,5 +1,4 @@
 -- The sum of the entries, which stops at 4,294,967,295.
-use Rattle.std.specs.Prelude.{ℕ}
 use Rattle.charges.specs.Kinds.{Kind}
 use Rattle.charges.specs.Capped.{Capped, capped, add, no_more}
 

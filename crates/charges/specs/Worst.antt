@@ -1,5 +1,4 @@
 -- The worst entry. Its charges are all numbers of 16 bits, so a ceiling may lie above each entry.
-use Rattle.std.specs.Prelude.{ℕ}
 use Rattle.charges.specs.Kinds.{Kind}
 use Rattle.charges.specs.Capped.{Capped, capped, greater, no_more}
 

@@ -1,5 +1,5 @@
 -- One record written into the table of modules.
-use Rattle.std.proofs.Common.{◌≡◌, ℕ, ◌+◌, ◌-◌, ◌^◌, ◌<◌, length, get_or, set, ap, ◌∙◌, subst, get_or-set_other, get_or-set_same}
+use Rattle.std.proofs.Common.{◌≡◌, ℕ, ◌+◌, ◌-◌, ◌^◌, ◌<◌, length, get_or, set, ap, ◌∙◌, get_or-set_other, get_or-set_same}
 use Rattle.tables.specs.declared.module_record.Module.{Module}
 use Rattle.tables.specs.declared.modules.Modules.{Modules}
 use Rattle.tables.specs.Modules.{one_setting, module_of, settings_of, OthersSame, Adds, Narrows}

@@ -1,17 +1,17 @@
 -- How the best so far changes as more setups are taken in.
 use mathlib.Core.Path.{◌≡◌, refl, sym, subst, ap, ◌∙◌}
-use mathlib.Core.List.{List, [], ◌∷◌, ◌++◌, append-nil}
+use mathlib.Core.List.{List, [], ◌++◌, append-nil}
 use mathlib.Core.Logic.{◌⊎◌, inl, inr}
-use mathlib.Core.Bool.{Bool, true, false, not, ◌&&◌, ◌||◌}
+use mathlib.Core.Bool.{Bool, not, ◌||◌}
 use mathlib.Core.Option.{Option, some, none}
 use Prim.Native.Nat.{ℕ}
-use lib.Dec.{T, T_not, not_T}
+use lib.Dec.{T, T_not}
 use Rattle.theory.specs.Order.{Order, below}
 use Rattle.theory.specs.Tree.{Fits, earlier, setups, all_of}
 use Rattle.theory.specs.Machine.{Problem}
 use Rattle.theory.specs.Finding.{Cheapest, clears}
-use Rattle.theory.proofs.Tests.{and_in, and_out, or_in, or_out, same_test, either, reflexive, below_at_most, at_most_below, weaken}
-use Rattle.theory.proofs.Reading.{Upto, upto_down, fits_end, three_ways, earlier_not_self}
+use Rattle.theory.proofs.Tests.{and_in, and_out, or_in, or_out, same_test, either, reflexive, below_at_most, weaken}
+use Rattle.theory.proofs.Reading.{Upto, fits_end, three_ways}
 use Rattle.theory.proofs.Lists.{all_setups, setups_all}
 
 module _ {V : Type 0} (P : Problem V) (O : Order P.at_most) where

@@ -1,23 +1,23 @@
 -- Two finished searches.
-use mathlib.Core.Path.{◌≡◌, refl, sym, subst, subst₂, ap, ap₂, ◌∙◌}
+use mathlib.Core.Path.{◌≡◌, sym, subst}
 use mathlib.Core.List.{List, [], ◌∷◌, ◌++◌}
-use mathlib.Core.Logic.{◌⊎◌, inl, inr}
-use mathlib.Core.Bool.{Bool, true, false, not, ◌&&◌, ◌||◌}
-use Prim.Native.Nat.{ℕ, zero, suc, ◌+◌, ◌≤◌}
+use mathlib.Core.Logic.{inl, inr}
+use mathlib.Core.Bool.{false, not, ◌&&◌, ◌||◌}
+use Prim.Native.Nat.{ℕ, ◌+◌, ◌≤◌}
 use native.Mathlib.Omega.{arith}
 use lib.Dec.{T}
 use lib.ListN.{length, drop}
-use Rattle.theory.specs.Order.{Order, below}
-use Rattle.theory.specs.Tree.{Fits, Begins, Filled, beginnings, earlier, setups, all_of}
-use Rattle.theory.specs.Machine.{Problem, Walk, Posed, Lawful, Level, State, after}
-use Rattle.theory.specs.Finding.{count, each_has, clears, Cheapest, alive, goes, goes_on, looked_at, looks, Finished, Agree}
+use Rattle.theory.specs.Order.{below}
+use Rattle.theory.specs.Tree.{Begins, Filled, earlier, setups, all_of}
+use Rattle.theory.specs.Machine.{Problem, Walk, Posed, Lawful, after}
+use Rattle.theory.specs.Finding.{each_has, clears, Cheapest, alive, goes, goes_on, looked_at, looks, Finished, Agree}
 use Rattle.theory.proofs.Tests.{and_in, and_out, or_in, or_out, at_most_below}
 use Rattle.theory.proofs.Lists.{all_setups, setups_all, count_more}
 use Rattle.theory.proofs.Best.{one_answer}
 use Rattle.theory.proofs.Stack.{Past}
 use Rattle.theory.proofs.Invariant.{always, snoc_filled}
 use Rattle.theory.proofs.Reading.{snoc_on}
-use Rattle.theory.proofs.Tally.{always_tallies, Tallies, to_come}
+use Rattle.theory.proofs.Tally.{always_tallies, to_come}
 
 begins_cut : (p s : List ℕ) (ds : List (List ℕ)) → Begins (p ++ s) ds → Begins p ds
 begins_cut [] s ds g = tt

@@ -1,18 +1,17 @@
 -- The finding.
-use mathlib.Core.Path.{◌≡◌, refl, sym, subst, ap, ◌∙◌}
-use mathlib.Core.List.{List, [], ◌∷◌, ◌++◌}
-use mathlib.Core.Bool.{Bool, not, ◌&&◌}
+use mathlib.Core.Path.{◌≡◌}
+use mathlib.Core.List.{List, [], ◌∷◌}
 use mathlib.Core.Option.{Option}
-use Prim.Native.Nat.{ℕ, zero, suc, ◌+◌}
+use Prim.Native.Nat.{ℕ, ◌+◌}
 use native.Mathlib.Omega.{arith}
 use Rattle.theory.specs.Tree.{beginnings}
-use Rattle.theory.specs.Machine.{Problem, Walk, Posed, Lawful, Level, beginning, State, after}
-use Rattle.theory.specs.Finding.{count, precedes, looked_at, looks, Cheapest, Finished, Underway, WayAt, Finds}
+use Rattle.theory.specs.Machine.{Level, beginning, State, after}
+use Rattle.theory.specs.Finding.{precedes, looked_at, looks, Cheapest, WayAt, Finds}
 use Rattle.theory.proofs.Precedes.{count_split}
 use Rattle.theory.proofs.Stack.{Past}
 use Rattle.theory.proofs.Invariant.{always}
 use Rattle.theory.proofs.Tally.{to_come, always_tallies}
-use Rattle.theory.proofs.Places.{Places, on, to_come_left, always_placed}
+use Rattle.theory.proofs.Places.{Places, to_come_left, always_placed}
 
 pub finds : (V : Type 0) → Finds V
 finds V P W posed L n = go s.path s.best s.limit s.steps (always P posed W L n).0 (always_tallies P W posed L n).1 (always_placed P W posed L n)

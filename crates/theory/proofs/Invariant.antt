@@ -4,17 +4,17 @@ use mathlib.Core.List.{List, [], ◌∷◌, ◌++◌, append-nil}
 use mathlib.Core.Logic.{◌⊎◌, inl, inr}
 use mathlib.Core.Bool.{Bool, true, false, not, cond}
 use mathlib.Core.Option.{Option, some, none}
-use Prim.Native.Nat.{ℕ, zero, suc, ◌+◌, ◌<◌, ◌≤◌}
+use Prim.Native.Nat.{ℕ, zero, suc, ◌<◌}
 use native.Mathlib.Omega.{arith}
 use lib.Dec.{T}
 use Rattle.theory.specs.Order.{Order, below}
-use Rattle.theory.specs.Tree.{Among, Fits, Filled, Sound, earlier, Above, Ascending}
+use Rattle.theory.specs.Tree.{Among, Fits, Filled, Sound, earlier, Ascending}
 use Rattle.theory.specs.Machine.{Problem, Walk, Posed, Lawful, Level, level, State, beginning, next, down, open_to, none_empty, kept, start, step_at, step, after}
 use Rattle.theory.specs.Finding.{Cheapest}
-use Rattle.theory.proofs.Tests.{either, weaken, not_below, reflexive}
+use Rattle.theory.proofs.Tests.{either, weaken, not_below}
 use Rattle.theory.proofs.Reading.{earlier_longer, earlier_trans, earlier_cancel, not_under, Upto, upto_cut, upto_down, snoc_on, fits_end}
 use Rattle.theory.proofs.Best.{grow, improve}
-use Rattle.theory.proofs.Stack.{nothing_before, first_lower, above_each, AllAscending, Past, Costly, Live, Stack, stack_next, closing, stack_falls}
+use Rattle.theory.proofs.Stack.{first_lower, above_each, AllAscending, Past, Costly, Stack, stack_next, closing, stack_falls}
 use Rattle.theory.proofs.Strikes.{empty_unfit, kept_fits, fits_kept, kept_ascending, kept_filled}
 
 pub snoc_filled : (p : List ℕ) (a : ℕ) → Filled (p ++ (a ∷ []))

@@ -1,13 +1,13 @@
 -- Where the walk stands among the beginnings that it looks at.
 use mathlib.Core.Path.{◌≡◌, refl, sym, subst, ap, ap₂, ◌∙◌}
 use mathlib.Core.List.{List, [], ◌∷◌, ◌++◌, map}
-use mathlib.Core.Bool.{Bool, true, false, not, ◌&&◌, ◌||◌, cond, and-true, and-false}
+use mathlib.Core.Bool.{Bool, true, false, not, ◌&&◌, cond, and-true, and-false}
 use Prim.Native.Nat.{ℕ, zero, suc, ◌+◌, ◌<◌}
 use native.Mathlib.Omega.{arith}
-use lib.ListN.{length, drop}
-use Rattle.theory.specs.Tree.{beginnings, each, bit, Filled, Sound, Above, Ascending}
+use lib.ListN.{length}
+use Rattle.theory.specs.Tree.{beginnings, bit, Filled, Sound, Ascending}
 use Rattle.theory.specs.Machine.{Problem, Walk, Posed, Lawful, Level, level, beginning, next, keep, none_empty, down, open_to, kept, start, step_at, after}
-use Rattle.theory.specs.Finding.{count, precedes, Cheapest, goes, goes_on, looked_at, looks}
+use Rattle.theory.specs.Finding.{count, precedes, Cheapest, goes, goes_on, looked_at}
 use Rattle.theory.proofs.Lists.{count_map, count_same, count_none, count_each, total, total_same}
 use Rattle.theory.proofs.Keeps.{total_keep, keep_same, keep_all}
 use Rattle.theory.proofs.Strikes.{keep_ascending}
@@ -18,7 +18,7 @@ use Rattle.theory.proofs.Invariant.{always}
 use Rattle.theory.proofs.Stack.{Past}
 use mathlib.Core.Option.{Option}
 use Rattle.theory.specs.Order.{below}
-use Rattle.theory.proofs.Precedes.{precedes_low, precedes_high, precedes_same, precedes_none, count_split, total_low, ascending_tail, total_high, total_append}
+use Rattle.theory.proofs.Precedes.{precedes_low, precedes_high, precedes_same, precedes_none, total_low, ascending_tail, total_high, total_append}
 
 -- one branch of a count
 branch : (b c : Bool) (t u : List ℕ → Bool) (xs : List (List ℕ)) → bit ((b && true) && c) + count (λ s. (b && t s) && u s) xs ≡ cond b (bit c + count (λ s. t s && u s) xs) 0

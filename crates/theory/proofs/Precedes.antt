@@ -1,15 +1,14 @@
 -- What comes before a beginning in depth-first order.
-use mathlib.Core.Path.{◌≡◌, refl, sym, subst, ap, ap₂, ◌∙◌}
+use mathlib.Core.Path.{◌≡◌, refl, ap, ap₂}
 use mathlib.Core.List.{List, [], ◌∷◌, ◌++◌}
-use mathlib.Core.Bool.{Bool, true, false, not, ◌&&◌, ◌||◌, and-true, and-false}
-use mathlib.Core.Logic.{◌⊎◌, inl, inr}
-use Prim.Native.Nat.{ℕ, zero, suc, ◌+◌, ◌<◌}
+use mathlib.Core.Bool.{Bool, true, false, not, ◌&&◌, ◌||◌}
+use Prim.Native.Nat.{ℕ, ◌+◌, ◌<◌}
 use native.Mathlib.Omega.{arith}
-use lib.Dec.{T, ltb, eqb, ltb→lt, lt→ltb, eqb→eq, eqb_refl, not_T}
+use lib.Dec.{ltb, eqb, ltb→lt, lt→ltb, eqb→eq, eqb_refl, not_T}
 use Rattle.theory.specs.Tree.{bit, Above, Ascending}
 use Rattle.theory.specs.Finding.{count, precedes}
 use Rattle.theory.proofs.Tests.{T_true, T_false}
-use Rattle.theory.proofs.Lists.{total, count_same, count_none}
+use Rattle.theory.proofs.Lists.{total}
 
 pub precedes_low : (k a : ℕ) (s t : List ℕ) → k < a → precedes (k ∷ s) (a ∷ t) ≡ true
 precedes_low k a s t l = ap (λ b. b || (eqb k a && precedes s t)) (T_true (ltb k a) (lt→ltb k a l))

@@ -2,14 +2,12 @@
 use mathlib.Core.Path.{◌≡◌, refl, sym, subst, ap, ◌∙◌}
 use mathlib.Core.List.{List, [], ◌∷◌, ◌++◌}
 use mathlib.Core.Logic.{◌⊎◌, inl, inr}
-use mathlib.Core.Bool.{Bool, true, false, not, cond}
-use Prim.Native.Nat.{ℕ, zero, suc, ◌+◌, ◌<◌, ◌≤◌}
+use Prim.Native.Nat.{ℕ, ◌<◌}
 use native.Mathlib.Omega.{arith}
 use lib.Dec.{T}
-use Rattle.theory.specs.Order.{Order, below}
+use Rattle.theory.specs.Order.{Order}
 use Rattle.theory.specs.Tree.{Among, Fits, earlier, Above, Ascending}
-use Rattle.theory.specs.Machine.{Problem, Level, level, beginning, next, keep, strike}
-use Rattle.theory.proofs.Tests.{either, T_true, T_false}
+use Rattle.theory.specs.Machine.{Problem, Level, level, beginning, next}
 use Rattle.theory.proofs.Reading.{earlier_out, earlier_here, earlier_longer, earlier_under, earlier_cancel, not_under, Upto, upto_cut, upto_up, upto_sibling, snoc_on}
 
 pub nothing_before : (y : List ℕ) → T (earlier y []) → ⊥

@@ -1,15 +1,15 @@
 -- What striking settings leaves.
-use mathlib.Core.Path.{◌≡◌, refl, sym, subst, ap, ◌∙◌}
+use mathlib.Core.Path.{◌≡◌, refl, sym, subst, ap}
 use mathlib.Core.List.{List, [], ◌∷◌, ◌++◌}
 use mathlib.Core.Logic.{◌⊎◌, inl, inr}
 use mathlib.Core.Bool.{Bool, true, false, not, cond}
-use Prim.Native.Nat.{ℕ, zero, suc, ◌+◌, ◌<◌, ◌≤◌}
+use Prim.Native.Nat.{ℕ, suc, ◌+◌, ◌<◌}
 use native.Mathlib.Omega.{arith}
 use lib.Dec.{T}
 use lib.ListN.{length, get_or, length-append}
 use lib.Seq.{get_or-append-add}
 use Rattle.theory.specs.Order.{Order, below}
-use Rattle.theory.specs.Tree.{Among, Fits, Filled, earlier, Above, Ascending}
+use Rattle.theory.specs.Tree.{Among, Fits, Filled, Above, Ascending}
 use Rattle.theory.specs.Machine.{Problem, Walk, Lawful, keep, strike, none_empty, kept}
 use Rattle.theory.proofs.Tests.{either, T_true, not_below}
 use Rattle.theory.proofs.Stack.{AllAscending, Costly}

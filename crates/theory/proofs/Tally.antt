@@ -1,23 +1,22 @@
 -- The steps made and those to come.
-use mathlib.Core.Path.{◌≡◌, refl, sym, subst, ap, ap₂, ◌∙◌}
-use mathlib.Core.List.{List, [], ◌∷◌, ◌++◌, map, head-eq_of_cons-eq, tail-eq_of_cons-eq}
-use mathlib.Core.Logic.{◌⊎◌, inl, inr}
+use mathlib.Core.Path.{◌≡◌, refl, sym, ap, ap₂, ◌∙◌}
+use mathlib.Core.List.{List, [], ◌∷◌, ◌++◌}
 use mathlib.Core.Bool.{Bool, true, false, not, ◌&&◌, ◌||◌, cond, or-true}
-use mathlib.Core.Option.{Option, some, none}
+use mathlib.Core.Option.{Option}
 use Prim.Native.Nat.{ℕ, zero, suc, ◌+◌}
 use native.Mathlib.Omega.{arith}
 use lib.Dec.{T}
 use lib.ListN.{length, drop}
-use Rattle.theory.specs.Order.{Order, below}
-use Rattle.theory.specs.Tree.{beginnings, earlier, Sound, Filled, each, bit}
-use Rattle.theory.specs.Machine.{Problem, Walk, Posed, Lawful, Level, level, beginning, State, next, keep, strike, none_empty, down, open_to, kept, start, step_at, step, after}
+use Rattle.theory.specs.Order.{below}
+use Rattle.theory.specs.Tree.{beginnings, earlier, Sound, Filled}
+use Rattle.theory.specs.Machine.{Problem, Walk, Posed, Lawful, Level, level, beginning, next, keep, strike, none_empty, down, open_to, kept, start, step_at, after}
 use Rattle.theory.specs.Finding.{count, each_has, clears, Cheapest, alive, goes, goes_on, looked_at, looks}
-use Rattle.theory.proofs.Lists.{count_map, count_each, total, total_same}
+use Rattle.theory.proofs.Lists.{total}
 use Rattle.theory.proofs.Keeps.{keep_same, keep_cond, strike_same, strike_strike, strike_none, none_empty_strike, sound_none_empty}
 use Rattle.theory.proofs.Weights.{weight, stays, opens, weight_below, weight_all, regroup, alive_snoc, length_snoc, drop_next}
 use Rattle.theory.proofs.Best.{clears_is}
 use Rattle.theory.proofs.Stack.{Past}
-use Rattle.theory.proofs.Invariant.{Holds, Invariant, always}
+use Rattle.theory.proofs.Invariant.{always}
 
 pub sound_drop : (n : ℕ) (ds : List (List ℕ)) → Sound ds → Sound (drop n ds)
 sound_drop zero [] h = tt

@@ -1,12 +1,12 @@
 -- How many beginnings are looked at below one.
-use mathlib.Core.Path.{◌≡◌, refl, sym, subst, ap, ap₂, ◌∙◌}
+use mathlib.Core.Path.{◌≡◌, refl, ap, ◌∙◌}
 use mathlib.Core.List.{List, [], ◌∷◌, ◌++◌, map}
 use mathlib.Core.Bool.{Bool, true, false, not, ◌&&◌, ◌||◌, cond}
 use Prim.Native.Nat.{ℕ, zero, suc, ◌+◌}
 use native.Mathlib.Omega.{arith}
 use lib.ListN.{length, drop, length-append}
-use Rattle.theory.specs.Tree.{beginnings, prefixes, each, bit, all_of}
-use Rattle.theory.specs.Machine.{Problem, Walk, keep, strike, none_empty}
+use Rattle.theory.specs.Tree.{beginnings, prefixes, bit, all_of}
+use Rattle.theory.specs.Machine.{Problem, Walk, keep}
 use Rattle.theory.specs.Finding.{count, each_has, clears, alive, goes, goes_on, looked_at}
 use Rattle.theory.proofs.Lists.{count_map, count_none, count_each, total, total_same, total_none, all_append, prefixes_snoc}
 use Rattle.theory.proofs.Keeps.{total_keep}

@@ -4,14 +4,14 @@ use mathlib.Core.List.{List, [], ◌∷◌, ◌++◌, append-nil, map, nil≢con
 use mathlib.Core.Bool.{Bool, true, false, not, ◌&&◌, ◌||◌}
 use mathlib.Core.Logic.{◌⊎◌, inl, inr, ◌↔◌}
 use mathlib.Core.Option.{Option, some, none}
-use Prim.Native.Nat.{ℕ, zero, suc, ◌+◌, ◌<◌}
+use Prim.Native.Nat.{ℕ, zero, suc, ◌+◌}
 use native.Mathlib.Omega.{arith}
 use lib.Dec.{T, T_not, not_T, eqb, eqb→eq, eqb_refl}
 use Rattle.theory.specs.Order.{below}
-use Rattle.theory.specs.Tree.{Among, Fits, Begins, Filled, earlier, setups, beginnings, prefixes, each, all_of, bit, Above, Ascending, Sound}
-use Rattle.theory.specs.Machine.{Problem, Walk, Posed, Lawful, Level, level, State, step_at, after}
-use Rattle.theory.specs.Finding.{count, clears, Cheapest, alive, goes, goes_on, looked_at, looks}
-use Rattle.theory.specs.Words.{same, Says, Said}
+use Rattle.theory.specs.Tree.{Among, Fits, Begins, Filled, earlier, setups, beginnings, prefixes, all_of, bit, Above, Ascending, Sound}
+use Rattle.theory.specs.Machine.{Problem, Walk, Posed, Lawful, Level, level, step_at, after}
+use Rattle.theory.specs.Finding.{count, clears, Cheapest, goes, goes_on, looked_at, looks}
+use Rattle.theory.specs.Words.{same, Said}
 use Rattle.theory.proofs.Tests.{and_in, and_out, or_in, or_out, either, T_true, T_false}
 use Rattle.theory.proofs.Reading.{snoc_on}
 use Rattle.theory.proofs.Lists.{all_setups, setups_all, all_map, count_map, count_same, count_none, count_each, total}

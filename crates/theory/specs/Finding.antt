@@ -1,7 +1,7 @@
 -- What a walk finds, and how many beginnings it looks at.
-use Rattle.std.specs.Prelude.{List, [], ◌∷◌, ◌++◌, Bool, true, false, not, ◌&&◌, ◌||◌, ◌≡◌, ℕ, zero, suc, ◌+◌, ◌≤◌, ◌<◌, T, ltb, eqb, length, drop}
+use Rattle.std.specs.Prelude.{List, [], ◌∷◌, ◌++◌, Bool, true, false, not, ◌&&◌, ◌||◌, ◌≡◌, ℕ, suc, ◌+◌, ◌≤◌, T, ltb, eqb, length, drop}
 use Rattle.std.proofs.Math.Option.{Option, some, none}
-use Rattle.theory.specs.Order.{Order, below}
+use Rattle.theory.specs.Order.{below}
 use Rattle.theory.specs.Tree.{Fits, Begins, Filled, earlier, setups, beginnings, prefixes, all_of, any_of, bit}
 use Rattle.theory.specs.Machine.{Problem, Walk, Posed, Lawful, Level, beginning, State, after}
 

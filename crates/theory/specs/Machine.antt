@@ -1,5 +1,5 @@
 -- The walk, one step at a time.
-use Rattle.std.specs.Prelude.{List, [], ◌∷◌, ◌++◌, Bool, true, false, cond, ◌≡◌, ℕ, zero, suc, ◌≤◌, ◌<◌, T, length, get_or}
+use Rattle.std.specs.Prelude.{List, [], ◌∷◌, ◌++◌, Bool, true, false, cond, ℕ, zero, suc, ◌≤◌, ◌<◌, T, length, get_or}
 use Rattle.std.proofs.Math.Option.{Option, some, none}
 use Rattle.theory.specs.Order.{Order, below}
 use Rattle.theory.specs.Tree.{Fits, Filled, Sound}

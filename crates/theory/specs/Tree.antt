@@ -1,5 +1,5 @@
 -- Setups, beginnings and the order in which they are read.
-use Rattle.std.specs.Prelude.{List, [], ◌∷◌, ◌++◌, map, Bool, true, false, ◌&&◌, ◌||◌, ◌⊎◌, ◌≡◌, ℕ, zero, suc, ◌<◌, T, ltb, eqb}
+use Rattle.std.specs.Prelude.{List, [], ◌∷◌, ◌++◌, map, Bool, true, false, ◌&&◌, ◌||◌, ◌⊎◌, ◌≡◌, ℕ, ◌<◌, ltb, eqb}
 
 -- k is one of the settings
 abbrev pub Among : ℕ → List ℕ → Type 0

@@ -1,9 +1,9 @@
 -- What the tests and lists of the finding say, in words without tests.
-use Rattle.std.specs.Prelude.{List, [], ◌∷◌, ◌++◌, Bool, true, false, not, ◌&&◌, ◌||◌, ◌↔◌, ◌≡◌, ℕ, zero, suc, ◌≤◌, T, eqb}
-use Rattle.std.proofs.Math.Option.{Option, some, none}
+use Rattle.std.specs.Prelude.{List, [], ◌∷◌, ◌++◌, Bool, true, false, ◌&&◌, ◌↔◌, ◌≡◌, ℕ, T, eqb}
+use Rattle.std.proofs.Math.Option.{none}
 use Rattle.theory.specs.Order.{below}
 use Rattle.theory.specs.Tree.{Fits, Begins, Filled, earlier, beginnings}
-use Rattle.theory.specs.Machine.{Problem, Walk, Posed, Lawful, State, after}
+use Rattle.theory.specs.Machine.{Problem, Walk, Posed, Lawful, after}
 use Rattle.theory.specs.Finding.{count, clears, alive, goes, looked_at, looks}
 
 -- the same list

@@ -1,4 +1,4 @@
-use Rattle.std.proofs.Common.{◌≡◌, ℕ, ◌+◌, ◌*◌, ◌<◌, ◌≤◌, length, take, sym, ap, ◌∙◌, subst, lt_of_le_of_lt, arith, length-set}
+use Rattle.std.proofs.Common.{◌≡◌, ℕ, ◌+◌, ◌*◌, ◌<◌, ◌≤◌, length, take, sym, subst, lt_of_le_of_lt, arith, length-set}
 use Rattle.std.proofs.lemmas.Nat.{mul-le}
 use Rattle.tables.specs.Modules.{allows}
 use Rattle.bounds.specs.Answers.{Rows}

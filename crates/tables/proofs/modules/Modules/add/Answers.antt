@@ -1,4 +1,4 @@
-use Rattle.std.proofs.Common.{◌≡◌, ◌-◌, ◌*◌, ◌%◌, ◌^◌, ◌<◌, ◌≤◌, length, refl, ap, arith, rules}
+use Rattle.std.proofs.Common.{◌-◌, ◌<◌, length, refl, ap, arith, rules}
 use Rattle.std.proofs.lemmas.Nat.{one_shl, pow_below}
 use Rattle.tables.proofs.Records.{adds}
 use Rattle.tables.proofs.modules.Modules.add.Goals as goal
