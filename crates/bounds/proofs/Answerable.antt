@@ -6,7 +6,7 @@ use Rattle.tables.specs.Modules.{allows}
 use Rattle.tables.specs.Sheet.{Whole}
 use Rattle.tables.specs.Setups.{Holds}
 use Rattle.bounds.specs.Beginnings.{allows_all, begins, answerable, later_setting}
-use Rattle.bounds.proofs.Allowing.{allows_each, allows_few}
+use Rattle.bounds.specs.Allowing.{allows_each, allows_few}
 
 pub record Begun (m : Modules) (sheet path : List ℕ) (len room : ℕ) : Type 0 where
   pub whole : Whole sheet

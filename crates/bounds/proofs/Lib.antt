@@ -1,3 +1,5 @@
-pub mod Allowing
 pub mod Answerable
+pub mod Taking
+pub mod Choosing
 pub mod Rows
+pub mod Tabling

@@ -12,7 +12,7 @@ use Rattle.counts.specs.Least.{least}
 use Rattle.counts.specs.Floors.{past_charge, forward, least_entry, directed, both, floor_over, only, forward_floor, directed_floor, forward_with, directed_with}
 use Rattle.counts.proofs.Joining.{at_most_self, join_at_most, joined_same, joined_longer, split_at, from_at_most, from_same, from_join, exchange_to}
 use Rattle.counts.proofs.Leasts.{least_at_most}
-use Rattle.bounds.proofs.Allowing.{allows_each, allows_few}
+use Rattle.bounds.specs.Allowing.{allows_each, allows_few}
 
 module _ (K : Kind) (L : Lawful K) (m : Modules) (sheet : List ℕ) (p s : List ℕ) (within : length p ≤ m.count) (starts : Starts p s) (fine : Setup m s) where
   at : ℕ → ℕ

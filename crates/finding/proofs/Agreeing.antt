@@ -13,7 +13,7 @@ use Rattle.tables.specs.Modules.{settings_of, allows}
 use Rattle.tables.specs.Setups.{forward_count, charge_of}
 use Rattle.tables.specs.Sheet.{entry_at}
 use Rattle.tables.proofs.Masks.{none_past}
-use Rattle.bounds.proofs.Allowing.{allows_each}
+use Rattle.bounds.specs.Allowing.{allows_each}
 use Rattle.walks.specs.Settings.{domains_from, domains}
 use Rattle.walks.specs.States.{problem}
 use Rattle.walks.proofs.Domains.{domains_same}

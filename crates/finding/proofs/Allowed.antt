@@ -6,7 +6,7 @@ use Rattle.theory.specs.Tree.{Among, Fits, Begins, Filled}
 use Rattle.tables.specs.declared.modules.Modules.{Modules}
 use Rattle.tables.specs.Modules.{allows}
 use Rattle.bounds.specs.Beginnings.{allows_all, Beginning, Setup, Starts}
-use Rattle.bounds.proofs.Allowing.{allows_each, allows_few}
+use Rattle.bounds.specs.Allowing.{allows_each, allows_few}
 use Rattle.walks.specs.Settings.{settings_from, domains_from, domains}
 use Rattle.walks.proofs.Masks.{settings_end, settings_more}
 use Rattle.walks.proofs.Trails.{domains_more}

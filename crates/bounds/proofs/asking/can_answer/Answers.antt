@@ -2,7 +2,7 @@ use Rattle.std.proofs.Common.{get_or, sym, ◌∙◌, arith}
 use Rattle.std.proofs.lemmas.Bool.{and_from}
 use Rattle.tables.specs.Modules.{allows}
 use Rattle.bounds.specs.Beginnings.{allows_all}
-use Rattle.bounds.proofs.Allowing.{allows_all_more, cannot_answer}
+use Rattle.bounds.specs.Allowing.{allows_all_more, cannot_answer}
 use Rattle.bounds.proofs.asking.can_answer.Goals as goal
 
 pub returns-then-not-allows : goal.returns-then-not-allows

@@ -1,5 +1,5 @@
 use Rattle.std.proofs.Common.{◌+◌, ◌*◌, ◌<◌, length, ap, ◌∙◌, arith, rules}
-use Rattle.bounds.proofs.Allowing.{allows_few}
+use Rattle.bounds.specs.Allowing.{allows_few}
 use Rattle.bounds.proofs.Answerable.{begun, later_parts, setting_within}
 use Rattle.bounds.proofs.setting.SettingBound.answer_of.Goals as goal
 

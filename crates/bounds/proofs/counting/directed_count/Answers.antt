@@ -1,0 +1,10 @@
+use Rattle.std.proofs.Common.{◌+◌, arith}
+use Rattle.bounds.specs.Floors.{least_entry}
+use Rattle.bounds.specs.Joining.{from_more, from_none}
+use Rattle.bounds.proofs.counting.directed_count.Goals as goal
+
+pub loop-i-preserved : goal.loop-i-preserved
+loop-i-preserved g c =
+    let K = g.C.Charge.kind in
+    let more = from_more K g.met.C.Charge.lawful (least_entry K c.args.modules.now c.args.sheet.now c.args.j c.args.k) (c.args.j + 1) c.loop-i.i (omega arith) in
+    cc

@@ -1,0 +1,12 @@
+use Rattle.std.proofs.Common.{◌≤◌, length, rules}
+use Rattle.bounds.proofs.Answerable.{begun, begun_holds}
+use Rattle.bounds.proofs.named.DirectedSettingBound.prepare.Goals as goal
+
+pub prepare_by-requires : goal.prepare_by-requires
+prepare_by-requires g c =
+    let m = c.args.modules.now in
+    let sheet = c.args.sheet.now in
+    let room = length c.args.scratch.now in
+    let b = begun m sheet c.args.path c.args.len room c.requires in
+    let long : 20 ≤ length c.args.path = search rules in
+    record { held = begun_holds m sheet c.args.path c.args.len room long b; within = b.within; room = b.roomy }

@@ -1,0 +1,41 @@
+use Rattle.std.proofs.Common.{◌≡◌, ℕ, ◌+◌, ◌*◌, ◌<◌, ◌≤◌, length, get_or, sym, refl, ap, ◌∙◌, subst, arith, length-set}
+use Rattle.std.proofs.lemmas.List.{get_or_read}
+use Rattle.tables.specs.Modules.{allows}
+use Rattle.bounds.specs.Answers.{SameButRow}
+use Rattle.bounds.proofs.Tabling.{Row, row_written, row_skipped, same_written, rest_written}
+use Rattle.bounds.proofs.table.join_row.Goals as goal
+use Rattle.bounds.proofs.table.join_row.Goals.{then-allows, else-allows}
+
+pub loop-k-preserved : goal.loop-k-preserved
+loop-k-preserved g c =
+    let C = g.row.C.Denot in
+    let K = g.C.Charge.kind in
+    let means = g.C.Charge.means in
+    let m = c.args.modules.now in
+    let j = c.args.j in
+    let k = c.loop-k.k in
+    let xs = c.loop-k.scratch in
+    let before = c.args.scratch.now in
+    let passes = allows m j in
+    let F : C → ℕ → K.V = λ z i. K.join (means c.args.charge) (means (get_or before (8 * j + i) z)) in
+    let inv = c.loop-k.invariant in
+    let small : k < 8 = omega arith in
+    let within : 8 * j + k < length xs = omega (arith, inv.0, m.few) in
+    elim c.if-allows.branch [
+      | then-allows w ↦
+          let x = w.joined.result in
+          let was : (z : C) → w.index-scratch-at.result ≡ get_or before (8 * j + k) z =
+          λ z. get_or_read xs (8 * j + k) w.index-scratch-at.result within w.index-scratch-at.is z ∙ inv.2 k (omega arith) z in (
+            ap length w.scratch-is ∙ length-set xs (8 * j + k) x ∙ inv.0,
+            subst (Row means passes F j (k + 1)) (sym w.scratch-is)
+                (row_written means passes F j k xs x within (λ z. w.joined.ensures ∙ ap (λ y. K.join (means c.args.charge) (means y)) (was z)) inv.1),
+            λ i h z. ap (λ ys. get_or ys (8 * j + i) z) w.scratch-is ∙ rest_written j k before xs x inv.2 i h z,
+            subst (SameButRow j before) (sym w.scratch-is) (same_written j k before xs x small inv.3),
+          )
+      | else-allows w ↦ (
+        ap length w.scratch-is ∙ inv.0,
+        subst (Row means passes F j (k + 1)) (sym w.scratch-is) (row_skipped means passes F j k xs (sym w.if-allows.ensures) inv.1),
+        λ i h z. ap (λ ys. get_or ys (8 * j + i) z) w.scratch-is ∙ inv.2 i (omega arith) z,
+        subst (SameButRow j before) (sym w.scratch-is) inv.3,
+      )
+    ]

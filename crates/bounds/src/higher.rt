@@ -1,0 +1,128 @@
+// The higher of two bounds.
+ghost use Rattle.std.specs.Prelude.{◌≡◌, ℕ, ◌+◌, ◌*◌, ◌<◌, ◌≤◌, true, length, take, slice_index_or};
+ghost use Rattle.bounds.specs.Answers.{Rows, SameButRow};
+ghost use Rattle.bounds.specs.Beginnings.{answerable};
+ghost use Rattle.bounds.specs.Greater.{greater};
+ghost use Rattle.tables.specs.Modules.{allows};
+ghost use Rattle.std.proofs.Common.{sym, subst};
+ghost use Rattle.std.proofs.lemmas.Bool.{cond_both};
+ghost use Rattle.charges.specs.Kinds.{AtMost};
+ghost use Rattle.tables.specs.Setups.{charge_of};
+
+use crate::asking::SCRATCH;
+use crate::bound::Bound;
+use crate::setting::SettingBound;
+use charges::Charge;
+use tables::modules::Modules;
+
+/// The greater answer of any two bounds; a setting bound if both are.
+#[derive(Drop)]
+pub struct Higher<A, B> {
+    pub first: A,
+    pub second: B,
+}
+
+fn greater<C: Charge>(x: C, y: C) -> C
+    ensures { C.Charge.means result ≡ greater C.Charge.kind (C.Charge.means x) (C.Charge.means y) }
+{
+    if x.is_at_most(y) { y } else { x }
+}
+
+// The greater answer for each allowed setting of module `j`.
+fn take_greater<C: Charge>(modules: &Modules, j: usize, scratch: &mut [C], room: &[C])
+    requires within { j < modules.now.count }
+    requires space { (192 ≤ length scratch.old) × (192 ≤ length room.now) }
+    ensures answers { (k : ℕ) → k < 8 → allows modules.now j k ≡ true → (z : C) → C.Charge.means (slice_index_or scratch.new (8 * j + k) z) ≡ greater C.Charge.kind (C.Charge.means (slice_index_or scratch.old (8 * j + k) z)) (C.Charge.means (slice_index_or room.now (8 * j + k) z)) }
+    ensures others { SameButRow j scratch.old scratch.new }
+{
+    for k in 0..8u8 {
+        if modules.allows(j, k) {
+            let at = 8 * j + k as usize;
+            scratch[at] = greater(scratch[at], room[at]);
+        }
+    }
+}
+
+// Prepares both bounds, and takes the greater answers.
+fn prepare_both<C: Charge, A: SettingBound<C>, B: SettingBound<C>>(
+    first: &A,
+    second: &B,
+    modules: &Modules,
+    sheet: &[u16],
+    path: [u8; 20],
+    len: usize,
+    scratch: &mut [C],
+    room: &mut [C],
+) -> C
+    requires begun { answerable modules.now sheet.now path len (length scratch.old) ≡ true }
+    requires also { answerable modules.now sheet.now path len (length room.old) ≡ true }
+    ensures answers { Rows C.Charge.means (allows modules.now) (λ j k. greater C.Charge.kind (C.Charge.means (A.SettingBound.answer first.now modules.now sheet.now (take len path) j k)) (C.Charge.means (B.SettingBound.answer second.now modules.now sheet.now (take len path) j k))) len modules.now.count scratch.new }
+    ensures value { C.Charge.means result ≡ greater C.Charge.kind (C.Charge.means (A.Bound.floor first.now modules.now sheet.now (take len path))) (C.Charge.means (B.Bound.floor second.now modules.now sheet.now (take len path))) }
+{
+    let one = first.prepare(modules, sheet, path, len, scratch);
+    let other = second.prepare(modules, sheet, path, len, room);
+    for j in len..modules.count() {
+        take_greater(modules, j, scratch, room);
+    }
+    greater(one, other)
+}
+
+impl<C: Charge, A: Bound<C>, B: Bound<C>> Bound<C> for Higher<A, B> {
+    ghost floor = { λ h m sheet p. C.Charge.made (greater C.Charge.kind (C.Charge.means (A.Bound.floor h.first m sheet p)) (C.Charge.means (B.Bound.floor h.second m sheet p))) };
+
+    ghost lawful = { λ h m sheet p s begins starts fine.
+        let K = C.Charge.kind in
+        let x = C.Charge.means (A.Bound.floor h.first m sheet p) in
+        let y = C.Charge.means (B.Bound.floor h.second m sheet p) in
+        subst (λ v. AtMost K v (charge_of K sheet s m.count)) (sym (C.Charge.stands (greater K x y)))
+        (cond_both (K.at_most x y) y x (λ v. AtMost K v (charge_of K sheet s m.count))
+        (λ _. B.Bound.lawful h.second m sheet p s begins starts fine)
+        (λ _. A.Bound.lawful h.first m sheet p s begins starts fine)) };
+
+    fn floor_of(
+        &self,
+        modules: &Modules,
+        sheet: &[u16],
+        path: [u8; 20],
+        len: usize,
+        scratch: &mut [C],
+    ) -> C {
+        let one = self.first.floor_of(modules, sheet, path, len, scratch);
+        let other = self.second.floor_of(modules, sheet, path, len, scratch);
+        greater(one, other)
+    }
+}
+
+impl<C: Charge, A: SettingBound<C>, B: SettingBound<C>> SettingBound<C> for Higher<A, B> {
+    ghost answer = { λ h m sheet p j k. C.Charge.made (greater C.Charge.kind (C.Charge.means (A.SettingBound.answer h.first m sheet p j k)) (C.Charge.means (B.SettingBound.answer h.second m sheet p j k))) };
+
+    ghost lawful_with = { λ h m sheet p s j k begins starts fine is.
+        let K = C.Charge.kind in
+        let x = C.Charge.means (A.SettingBound.answer h.first m sheet p j k) in
+        let y = C.Charge.means (B.SettingBound.answer h.second m sheet p j k) in
+        subst (λ v. AtMost K v (charge_of K sheet s m.count)) (sym (C.Charge.stands (greater K x y)))
+        (cond_both (K.at_most x y) y x (λ v. AtMost K v (charge_of K sheet s m.count))
+        (λ _. B.SettingBound.lawful_with h.second m sheet p s j k begins starts fine is)
+        (λ _. A.SettingBound.lawful_with h.first m sheet p s j k begins starts fine is)) };
+
+    fn prepare(
+        &self,
+        modules: &Modules,
+        sheet: &[u16],
+        path: [u8; 20],
+        len: usize,
+        scratch: &mut [C],
+    ) -> C {
+        let mut room = [C::zero(); SCRATCH];
+        prepare_both(
+            &self.first,
+            &self.second,
+            modules,
+            sheet,
+            path,
+            len,
+            scratch,
+            &mut room,
+        )
+    }
+}
