@@ -5,8 +5,8 @@ use Rattle.charges.specs.Kinds.{Kind, Lawful, AtMost}
 use Rattle.tables.specs.declared.modules.Modules.{Modules}
 use Rattle.tables.specs.Setups.{charge_of}
 use Rattle.bounds.specs.Beginnings.{Setup, Starts}
-use Rattle.higher.specs.Greater.{greater}
-use Rattle.counts.proofs.Sound.{past_sound, forward_sound, forward_with_sound, directed_sound, directed_with_sound}
+use Rattle.bounds.specs.Greater.{greater}
+use Rattle.bounds.specs.Sound.{past_sound, forward_sound, forward_with_sound, directed_sound, directed_with_sound}
 use Rattle.lines.specs.declared.call.BoundName.{BoundName}
 use Rattle.lines.specs.declared.call.BoundName.TheVariants.{One, Higher}
 use Rattle.lines.specs.declared.call.SimpleBound.{SimpleBound}

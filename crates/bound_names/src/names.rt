@@ -8,8 +8,8 @@ ghost use Rattle.tables.specs.Setups.{charge_of};
 ghost use Rattle.bound_names.specs.Laws.{simple_lawful, named_lawful, simple_with_lawful, named_with_lawful};
 
 use bounds::bound::Bound;
-use higher::Higher;
-use floors::{Directed, Forward, Past};
+use bounds::higher::Higher;
+use bounds::named::{Directed, Forward, Past};
 use bounds::setting::SettingBound;
 use charges::Charge;
 use lines::call::{BoundName, SimpleBound};

@@ -3,7 +3,7 @@
 
 #[cfg(test)]
 mod tests {
-    use floors::Past;
+    use bounds::named::Past;
     use charges::Count;
     use jobs::job::{Job, Plain};
     use jobs::refusal::Refusal;
