@@ -1,6 +1,6 @@
 -- What is allowed, module by module.
-use Rattle.std.specs.Prelude.{◌≡◌, ℕ, zero, suc, ◌+◌, ◌<◌, Bool, true, false, ◌&&◌, List, length, nat_le, nat_lt, slice_index, refl}
-use Rattle.std.proofs.Common.{⊎_elim, sym, ap, ◌∙◌, add-one, arith}
+use Rattle.std.specs.Prelude.{◌≡◌, ℕ, zero, suc, ◌+◌, ◌<◌, true, false, ◌&&◌, List, length, nat_le, nat_lt, slice_index, refl}
+use Rattle.std.proofs.Common.{⊎_elim, ap, ◌∙◌, add-one, arith}
 use Rattle.std.proofs.lemmas.Bool.{and_parts, and_left, and_right, cases_lt, both_ways}
 use Rattle.tables.specs.declared.modules.Modules.{Modules}
 use Rattle.tables.specs.Modules.{allows, module_of}

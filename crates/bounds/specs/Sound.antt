@@ -1,5 +1,5 @@
 -- The floors are at most the charge of each allowed setup that starts with the beginning.
-use Rattle.std.specs.Prelude.{◌≡◌, ℕ, ◌+◌, ◌<◌, ◌≤◌, Bool, true, List, length, ◌==◌, slice_index, refl}
+use Rattle.std.specs.Prelude.{◌≡◌, ℕ, ◌+◌, ◌<◌, ◌≤◌, Bool, true, List, length, ◌==◌, slice_index}
 use Rattle.std.proofs.Math.Logic.{⊎_elim}
 use Rattle.std.proofs.Math.Path.{sym, ap, subst}
 use Rattle.std.proofs.Common.{◌∙◌, arith}
@@ -13,7 +13,7 @@ use Rattle.tables.specs.Sheet.{entry_at}
 use Rattle.bounds.specs.Beginnings.{Setup, Starts}
 use Rattle.bounds.specs.Least.{least}
 use Rattle.bounds.specs.Floors.{past_charge, forward, least_entry, directed, both, floor_over, only, forward_floor, directed_floor, forward_with, directed_with}
-use Rattle.bounds.specs.Joining.{at_most_self, join_at_most, at_most_join, joined_same, joined_longer, split_at, from_at_most, from_same, from_join, exchange_to}
+use Rattle.bounds.specs.Joining.{at_most_self, join_at_most, joined_same, joined_longer, split_at, from_at_most, from_same, from_join, exchange_to}
 use Rattle.bounds.specs.Leasts.{least_at_most}
 use Rattle.bounds.specs.Allowing.{allows_each, allows_few}
 

@@ -1,6 +1,6 @@
 use Rattle.std.proofs.Common.{◌+◌, arith}
 use Rattle.bounds.specs.Floors.{least_entry}
-use Rattle.bounds.specs.Joining.{from_more, from_none}
+use Rattle.bounds.specs.Joining.{from_more}
 use Rattle.bounds.proofs.counting.directed_count.Goals as goal
 
 pub loop-i-preserved : goal.loop-i-preserved

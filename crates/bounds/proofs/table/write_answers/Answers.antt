@@ -1,10 +1,10 @@
-use Rattle.std.proofs.Common.{◌≡◌, ℕ, ◌+◌, ◌<◌, ◌≤◌, length, get_or, sym, ap, ◌∙◌, subst, arith}
+use Rattle.std.proofs.Common.{◌≡◌, ℕ, ◌+◌, ◌<◌, ◌≤◌, length, get_or, ap, ◌∙◌, subst, arith}
 use Rattle.std.proofs.lemmas.List.{get_or_read}
 use Rattle.tables.specs.Joins.{joined_from}
 use Rattle.tables.specs.Modules.{allows}
-use Rattle.bounds.specs.Answers.{Rows, Leasts, chosen}
+use Rattle.bounds.specs.Answers.{Rows, chosen}
 use Rattle.bounds.specs.Least.{least}
-use Rattle.bounds.specs.Joining.{from_step, join_from_none}
+use Rattle.bounds.specs.Joining.{from_step}
 use Rattle.bounds.proofs.Tabling.{leasts_kept, rows_left, rows_changed, others_are, row_answered}
 use Rattle.bounds.proofs.table.write_answers.Goals as goal
 

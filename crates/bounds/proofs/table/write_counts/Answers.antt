@@ -1,4 +1,4 @@
-use Rattle.std.proofs.Common.{◌+◌, ◌*◌, ◌<◌, List, length, take, sym, refl, ap, ◌∙◌, subst, arith, length-set}
+use Rattle.std.proofs.Common.{◌+◌, ◌*◌, ◌<◌, length, take, sym, refl, ap, ◌∙◌, subst, arith, length-set}
 use Rattle.tables.specs.Modules.{allows}
 use Rattle.bounds.specs.Answers.{SameButRow}
 use Rattle.bounds.specs.Least.{least_of}
