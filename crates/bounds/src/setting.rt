@@ -18,7 +18,8 @@ pub trait SettingBound<C: Charge>: Bound<C> {
     // the answer for setting k of the later module j
     ghost answer: { Self → Modules → List ℕ → List ℕ → ℕ → ℕ → C };
 
-    /// The answer for setting `k` of the later module `j`. A setting bound gives this or `prepare`, or both.
+    /// The answer for setting `k` of the later module `j`. A bound that has all answers at once keeps this, which prepares
+    /// them.
     fn answer_of(
         &self,
         modules: &Modules,
@@ -38,7 +39,7 @@ pub trait SettingBound<C: Charge>: Bound<C> {
     }
 
     /// Writes the answer for each allowed setting `k` of each later module `j` to `8j + k` of the scratch, and gives the
-    /// floor. A bound that has all answers at once writes its own; kept, this one asks `answer_of` for each.
+    /// floor. A bound that has all answers at once writes its own; one that gives `answer_of` alone calls `prepare_each`.
     fn prepare(
         &self,
         modules: &Modules,
@@ -49,20 +50,7 @@ pub trait SettingBound<C: Charge>: Bound<C> {
     ) -> C
         requires { answerable modules.now sheet.now path len (length scratch.old) ≡ true }
         ensures answers { Rows C.Charge.means (allows modules.now) (λ j k. C.Charge.means (answer self.now modules.now sheet.now (take len path) j k)) len modules.now.count scratch.new }
-        ensures value { C.Charge.means result ≡ C.Charge.means (Self.Bound.floor self.now modules.now sheet.now (take len path)) }
-    {
-        let floor = self.floor_of(modules, sheet, path, len, scratch);
-        for j in len..modules.count() {
-            for k in 0..8u8 {
-                if modules.allows(j, k) {
-                    let mut room = [C::zero(); SCRATCH];
-                    let more = self.answer_of(modules, sheet, path, len, j, k, &mut room);
-                    scratch[8 * j + k as usize] = more;
-                }
-            }
-        }
-        floor
-    }
+        ensures value { C.Charge.means result ≡ C.Charge.means (Self.Bound.floor self.now modules.now sheet.now (take len path)) };
 
     /// The answer for every input: zero where `floor_at` answers zero for want of a beginning or of memory, where `j` is no
     /// later module, and where `k` is not allowed there.
@@ -90,4 +78,30 @@ pub trait SettingBound<C: Charge>: Bound<C> {
     }
 
     ghost lawful_with: { (b : Self) (m : Modules) (sheet p s : List ℕ) (j k : ℕ) → Beginning m p → Starts p s → Setup m s → slice_index s j ≡ k → AtMost C.Charge.kind (C.Charge.means (answer b m sheet p j k)) (charge_of C.Charge.kind sheet s m.count) };
+}
+
+/// What `prepare` does, for a bound that gives `answer_of`, which is asked for each setting.
+pub fn prepare_each<C: Charge, B: SettingBound<C>>(
+    bound: &B,
+    modules: &Modules,
+    sheet: &[u16],
+    path: [u8; 20],
+    len: usize,
+    scratch: &mut [C],
+) -> C
+    requires { answerable modules.now sheet.now path len (length scratch.old) ≡ true }
+    ensures answers { Rows C.Charge.means (allows modules.now) (λ j k. C.Charge.means (B.SettingBound.answer bound.now modules.now sheet.now (take len path) j k)) len modules.now.count scratch.new }
+    ensures value { C.Charge.means result ≡ C.Charge.means (B.Bound.floor bound.now modules.now sheet.now (take len path)) }
+{
+    let floor = bound.floor_of(modules, sheet, path, len, scratch);
+    for j in len..modules.count() {
+        for k in 0..8u8 {
+            if modules.allows(j, k) {
+                let mut room = [C::zero(); SCRATCH];
+                let more = bound.answer_of(modules, sheet, path, len, j, k, &mut room);
+                scratch[8 * j + k as usize] = more;
+            }
+        }
+    }
+    floor
 }

@@ -6,7 +6,6 @@ ghost use Rattle.walks.specs.Opening.{under, Opens};
 ghost use Rattle.walks.specs.Trails.{Live};
 ghost use Rattle.tables.specs.Setups.{charge_of};
 ghost use Rattle.tables.specs.declared.modules.Modules.{Modules};
-ghost use Rattle.std.proofs.Common.{rules};
 
 use crate::striking::strike;
 use bounds::bound::Bound;
@@ -95,9 +94,9 @@ impl<C: Charge, B: Bound<C>> Walk<C> for Plain<B> {
     // the floor serves for every setting: at an opened beginning it strikes none
     ghost answer = { λ w m sheet p j k. B.Bound.floor w.bound m sheet p };
 
-    ghost lawful = { Prim.search rules };
+    ghost lawful = { λ w. B.Bound.lawful w.bound };
 
-    ghost lawful_with = { Prim.search rules };
+    ghost lawful_with = { λ w m sheet p s j k begins starts fine is. B.Bound.lawful w.bound m sheet p s begins starts fine };
 
     fn floor_at(
         &self,
@@ -134,9 +133,9 @@ impl<C: Charge, B: SettingBound<C>> Walk<C> for Both<B> {
 
     ghost answer = { λ w. B.SettingBound.answer w.bound };
 
-    ghost lawful = { Prim.search rules };
+    ghost lawful = { λ w. B.Bound.lawful w.bound };
 
-    ghost lawful_with = { Prim.search rules };
+    ghost lawful_with = { λ w. B.SettingBound.lawful_with w.bound };
 
     fn floor_at(
         &self,
