@@ -28,7 +28,7 @@ OfName w P =
     (cond (bytes_eq w (codes "charge")) ((i k j l e : ℕ) → P (Charge i k j l e))
     (cond (bytes_eq w (codes "narrow")) ((i m : ℕ) → P (Narrow i m))
     (cond (bytes_eq w (codes "weigh")) ((row : List ℕ) → P (Weigh row))
-    (cond (bytes_eq w (codes "what_if")) ((i k : ℕ) (row : List ℕ) → P (WhatIf i k row))
+    (cond (bytes_eq w (codes "what-if")) ((i k : ℕ) (row : List ℕ) → P (WhatIf i k row))
     (cond (bytes_eq w (codes "floor")) ((path : List ℕ) (len : ℕ) → P (Floor path len))
     (cond (bytes_eq w (codes "floor-with")) ((j k : ℕ) (path : List ℕ) (len : ℕ) → P (FloorWith j k path len))
     (cond (bytes_eq w (codes "start")) ((x : Figure) → P (Start x))
