@@ -16,7 +16,7 @@ pub fn read_weigh(text: &str) -> Option<Call>
     Some(Call::Weigh { row })
 }
 
-/// `what_if I K S0 S1 ..`, from the text after its first word.
+/// `what-if I K S0 S1 ..`, from the text after its first word.
 pub fn read_what_if(text: &str) -> Option<Call>
     ensures { Exactly (Says (codes "what-if" ∷ words_of text.now)) result }
 {

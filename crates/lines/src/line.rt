@@ -25,7 +25,7 @@ pub enum Line {
 /// - `open NUMBER KIND WALKS BOUND`: a kind is `count`, `sum`, `worst` or `ranked`, the walks are `plain` or `both`, and a
 ///   bound is `past`, `forward`, `directed`, or `higher` and two of these. With `both`, `past` is no bound, nor a part of one.
 /// - `add SETTINGS`, `charge I K J L CLASH`, `narrow I MASK`
-/// - `weigh S0 S1 ..`, `what_if I K S0 S1 ..`, `floor S0 S1 ..` and `floor-with J K S0 S1 ..`, with at most twenty settings
+/// - `weigh S0 S1 ..`, `what-if I K S0 S1 ..`, `floor S0 S1 ..` and `floor-with J K S0 S1 ..`, with at most twenty settings
 /// - `start CEILING` and `ahead CEILING`: a ceiling is a number, or two numbers for a ranked charge. Whether it is a charge of the
 ///   job's kind is not told by the line.
 /// - `sit STEPS` and `close`, and after each perhaps `ticket NUMBER`
