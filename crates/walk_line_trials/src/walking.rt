@@ -176,7 +176,11 @@ fn answers_are_reported(rt: HostRuntime) -> Result<(), Fail> {
         ),
     ];
     for (line, answer, text) in table {
-        assert!(rt; report(rt.alloc(), line, answer)? == text, "{}", text);
+        assert!(rt;
+            report(rt.alloc(), line, answer)?.as_str() == text,
+            "{}",
+            text
+        );
     }
     Ok(())
 }

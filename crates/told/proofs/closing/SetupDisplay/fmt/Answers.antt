@@ -9,7 +9,7 @@ loop-setting-preserved g c = λ plain.
     let old = c.loop-setting.invariant plain in
     let took = g.W.Write.write_str_gives in
     has_written_of_eq took _ _ _ _ (sym (one_more _ c.loop-setting.setting-index c.loop-setting-test.true))
-    (has_written_append took _ _ c.loop-setting.f _ _ old (c.in_ok-write.ensures.shows old.plain refl))
+    (has_written_append took _ _ c.loop-setting.f _ _ old (c.in_ok-write.ensures.writes old.plain refl))
 
 pub returns-clause-writes : goal.returns-clause-writes
 returns-clause-writes g c = λ plain ok.
