@@ -12,7 +12,7 @@ returns g c =
           put_closed g.C.Charge.kind g.C.Charge.means d.job.current c.close.new.self.job.current
           (λ (b : List ℕ). close_checks (is_open d.job.current) d.job.number b c.args.ticket) c.args.memory.now c.args.row c.min-from.result c.min-len.result
           c.min-from.ensures c.min-len.ensures _ c.close.result c.close.ensures.decides;
-      same-modules = c.close.ensures.same_modules;
+      same_modules = c.close.ensures.same_modules;
       same_number = c.close.ensures.same_number;
       same_walks = c.close.ensures.same_walks;
     }

@@ -14,7 +14,7 @@ returns g c =
     let room : length (take (end - 0) xs) ≡ min c.args.room (length xs) = length-take-le (end - 0) xs upto ∙ (let z : end - 0 ≡ end = omega arith in z) ∙ c.min-end.ensures in
     record {
       decides = decides_less c.sit.result _ _ _ _ _ (ap (λ n. sit_checks (is_open d.job.current) d.job.number c.args.sheet.now n c.args.ticket c.args.steps) room) c.sit.ensures.decides;
-      same-modules = c.sit.ensures.same_modules;
+      same_modules = c.sit.ensures.same_modules;
       same_number = c.sit.ensures.same_number;
       same_walks = c.sit.ensures.same_walks;
     }

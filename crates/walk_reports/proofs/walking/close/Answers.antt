@@ -30,7 +30,7 @@ returns-in-Ok g c =
             ),
             told.decides.1.1,
           );
-      same-modules = told.same-modules;
+      same_modules = told.same_modules;
       same_number = told.same_number;
       same_walks = told.same_walks;
     }
