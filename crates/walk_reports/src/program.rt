@@ -39,9 +39,10 @@ fn print_told(rt: &HostRuntime, line: &str, told: Option<Told>) -> io::Result<()
 pub fn perform(rt: &HostRuntime) -> io::Result<()> {
     let heap = rt.alloc();
     let mut sheet = vec![in heap; 0u16; ENTRIES]?;
+    let lines = BufReader::new(heap, rt.stdin())?.lines(heap);
     let mut job = None;
     let mut done = Ok(());
-    for line in BufReader::new(heap, rt.stdin())?.lines(heap) {
+    for line in lines {
         match line {
             Ok(text) => {
                 let (after, told) = follow(job, sheet.as_mut_slice(), text.as_str());

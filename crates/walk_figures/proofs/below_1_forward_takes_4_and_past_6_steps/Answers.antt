@@ -6,6 +6,6 @@ use Rattle.walk_figures.proofs.below_1_forward_takes_4_and_past_6_steps.Goals as
 pub returns : goal.returns
 unfolding settings_from domains_from least_of
 returns c = record {
-  by-forward = record { finished = refl; found = refl; charged = refl; counted = refl };
-  by-past = record { finished = refl; found = refl; charged = refl; counted = refl };
+  by_forward = record { finished = refl; found = refl; charged = refl; counted = refl };
+  by_past = record { finished = refl; found = refl; charged = refl; counted = refl };
 }

@@ -6,7 +6,7 @@ use Rattle.walk_figures.proofs.two_modules_end_at_1_0_in_6_steps.Goals as goal
 pub returns : goal.returns
 unfolding settings_from domains_from least_of
 returns c = record {
-  by-past = record { finished = refl; found = refl; charged = refl; counted = refl };
-  by-forward = record { finished = refl; found = refl; charged = refl; counted = refl };
-  by-directed = record { finished = refl; found = refl; charged = refl; counted = refl };
+  by_past = record { finished = refl; found = refl; charged = refl; counted = refl };
+  by_forward = record { finished = refl; found = refl; charged = refl; counted = refl };
+  by_directed = record { finished = refl; found = refl; charged = refl; counted = refl };
 }

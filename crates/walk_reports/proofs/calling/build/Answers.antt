@@ -22,7 +22,7 @@ returns-in-Weigh g c =
           c.weigh.ensures c.charge_or_refused.ensures);
       same_number = refl;
       same_walks = refl;
-      same-walk = refl;
+      same_walk = refl;
     }
 
 pub returns-in-WhatIf : goal.returns-in-WhatIf
@@ -42,5 +42,5 @@ returns-in-WhatIf g c =
           c.what_if.ensures.decides c.charge_or_refused-in-WhatIf.ensures);
       same_number = refl;
       same_walks = refl;
-      same-walk = refl;
+      same_walk = refl;
     }
