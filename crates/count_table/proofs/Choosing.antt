@@ -1,13 +1,13 @@
 -- A floor for one setting, taken apart at its module.
-use Rattle.std.proofs.Common.{◌≡◌, ℕ, zero, suc, ◌+◌, ◌-◌, ◌<◌, ◌≤◌, Bool, true, eqb, List, length, sym, refl, ap, ◌∙◌, arith}
+use Rattle.std.proofs.Common.{◌≡◌, ℕ, zero, suc, ◌+◌, ◌-◌, ◌<◌, ◌≤◌, eqb, List, length, sym, refl, ap, ◌∙◌, arith}
 use Rattle.std.proofs.lemmas.Bool.{cond-true, cond-false, eq-eqb, ne_eqb}
 use Rattle.charges.specs.Kinds.{Kind, Lawful}
 use Rattle.tables.specs.declared.modules.Modules.{Modules}
-use Rattle.tables.specs.Joins.{joined, joined_from}
+use Rattle.tables.specs.Joins.{joined_from}
 use Rattle.tables.specs.Modules.{allows}
 use Rattle.counts.specs.Floors.{past_charge, floor_over, only}
 use Rattle.counts.specs.Least.{least}
-use Rattle.counts.proofs.Joining.{from_none, from_more, from_same, neutral_right, join_from_none}
+use Rattle.counts.proofs.Joining.{from_none, from_more, from_same, join_from_none}
 use Rattle.counts.proofs.Leasts.{least_of_one}
 
 module _ (K : Kind) (L : Lawful K) where

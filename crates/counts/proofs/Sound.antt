@@ -1,5 +1,5 @@
 -- The floors are at most the charge of each allowed setup that starts with the beginning.
-use Rattle.std.proofs.Common.{◌≡◌, ℕ, ◌+◌, ◌<◌, ◌≤◌, Bool, true, eqb, List, length, get_or, sym, refl, ap, ◌∙◌, subst, ⊎_elim, arith}
+use Rattle.std.proofs.Common.{◌≡◌, ℕ, ◌+◌, ◌<◌, ◌≤◌, Bool, true, eqb, List, length, get_or, sym, ap, ◌∙◌, subst, ⊎_elim, arith}
 use Rattle.std.proofs.lemmas.Bool.{cond-true, cond-false, cases_eq, eq-eqb, ne_eqb}
 use Rattle.charges.specs.Kinds.{Kind, Lawful, AtMost}
 use Rattle.tables.specs.declared.modules.Modules.{Modules}
@@ -10,7 +10,7 @@ use Rattle.tables.specs.Sheet.{entry_at}
 use Rattle.bounds.specs.Beginnings.{Setup, Starts}
 use Rattle.counts.specs.Least.{least}
 use Rattle.counts.specs.Floors.{past_charge, forward, least_entry, directed, both, floor_over, only, forward_floor, directed_floor, forward_with, directed_with}
-use Rattle.counts.proofs.Joining.{at_most_self, join_at_most, at_most_join, joined_same, joined_longer, split_at, from_at_most, from_same, from_join, exchange_to}
+use Rattle.counts.proofs.Joining.{at_most_self, join_at_most, joined_same, joined_longer, split_at, from_at_most, from_same, from_join, exchange_to}
 use Rattle.counts.proofs.Leasts.{least_at_most}
 use Rattle.bounds.proofs.Allowing.{allows_each, allows_few}
 

@@ -1,11 +1,11 @@
-use Rattle.std.proofs.Common.{◌≡◌, ℕ, ◌+◌, ◌<◌, ◌≤◌, length, get_or, sym, ap, ◌∙◌, subst, arith}
+use Rattle.std.proofs.Common.{◌≡◌, ℕ, ◌+◌, ◌<◌, ◌≤◌, length, get_or, ap, ◌∙◌, subst, arith}
 use Rattle.std.proofs.lemmas.List.{get_or_read}
 use Rattle.tables.specs.Joins.{joined_from}
 use Rattle.tables.specs.Modules.{allows}
 use Rattle.bounds.specs.Answers.{Rows}
-use Rattle.count_table.specs.Table.{Leasts, chosen}
+use Rattle.count_table.specs.Table.{chosen}
 use Rattle.counts.specs.Least.{least}
-use Rattle.counts.proofs.Joining.{from_step, join_from_none}
+use Rattle.counts.proofs.Joining.{from_step}
 use Rattle.bounds.proofs.Rows.{rows_left, rows_changed}
 use Rattle.count_table.proofs.Tabling.{leasts_kept, others_are, row_answered}
 use Rattle.count_table.proofs.write_answers.Goals as goal

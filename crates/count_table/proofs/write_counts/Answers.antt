@@ -1,4 +1,4 @@
-use Rattle.std.proofs.Common.{◌+◌, ◌*◌, ◌<◌, List, length, take, sym, refl, ap, ◌∙◌, subst, arith, length-set}
+use Rattle.std.proofs.Common.{◌+◌, ◌*◌, ◌<◌, length, take, sym, refl, ap, ◌∙◌, subst, arith, length-set}
 use Rattle.tables.specs.Modules.{allows}
 use Rattle.bounds.specs.Answers.{SameButRow}
 use Rattle.counts.specs.Least.{least_of}
@@ -28,10 +28,10 @@ loop-k-preserved g c =
     let within : 8 * j + k < length xs = omega (arith, inv.0, m.few) in
     elim c.if-allows.branch [
       | then-allows w ↦
-          let x = w.count_more.result in
+          let x = w.count-more.result in
           let more = least_takes K passes f k (sym w.if-allows.ensures) in (
             ap length w.scratch-is ∙ length-set xs (8 * j + k) x ∙ inv.0,
-            subst (Row means passes (λ z. f) j (k + 1)) (sym w.scratch-is) (row_written means passes (λ z. f) j k xs x within (λ z. w.count_more.ensures) inv.1),
+            subst (Row means passes (λ z. f) j (k + 1)) (sym w.scratch-is) (row_written means passes (λ z. f) j k xs x within (λ z. w.count-more.ensures) inv.1),
             subst (SameButRow j before) (sym w.scratch-is) (same_written j k before xs x small inv.2),
             cc,
           )

@@ -1,4 +1,4 @@
-use Rattle.std.proofs.Common.{◌≡◌, ℕ, ◌+◌, ◌*◌, ◌<◌, ◌≤◌, true, ◌⊎◌, length, get_or, take}
+use Rattle.std.proofs.Common.{◌≡◌, ℕ, ◌+◌, ◌*◌, ◌<◌, true, length, take}
 use Rattle.tables.specs.Modules.{allows}
 use Rattle.bounds.specs.Answers.{Has, SameButRow}
 use Rattle.counts.specs.Least.{meant, least_of}

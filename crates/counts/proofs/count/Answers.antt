@@ -13,8 +13,8 @@ returns-in-Forward g c =
     let d = c.args.d in
     let j = c.args.j in
     let k = c.args.k in
-    let e = c.forward_with-beginning.ensures ∙ forward_taken K g.met.C.Charge.lawful sheet path d c.requires.held.long j k in
-    subst (λ (t : Tally). g.C.Charge.means c.forward_with-beginning.result ≡ counted K c.args.modules.now sheet t (take d path) j k) (sym c.in-Forward.is) e
+    let e = c.forward-with_beginning.ensures ∙ forward_taken K g.met.C.Charge.lawful sheet path d c.requires.held.long j k in
+    subst (λ (t : Tally). g.C.Charge.means c.forward-with_beginning.result ≡ counted K c.args.modules.now sheet t (take d path) j k) (sym c.in-Forward.is) e
 
 pub returns-in-Both : goal.returns-in-Both
 returns-in-Both g c =
@@ -25,7 +25,7 @@ returns-in-Both g c =
     let d = c.args.d in
     let j = c.args.j in
     let k = c.args.k in
-    let first = c.forward_with-beginning.ensures ∙ forward_taken K g.met.C.Charge.lawful sheet path d c.requires.held.long j k in
+    let first = c.forward-with_beginning.ensures ∙ forward_taken K g.met.C.Charge.lawful sheet path d c.requires.held.long j k in
     let e =
     c.joined.ensures
     ∙ ap (λ x. K.join x (g.C.Charge.means c.directed_count.result)) first

@@ -1,6 +1,6 @@
 use Rattle.std.proofs.Common.{◌+◌, arith}
 use Rattle.counts.specs.Floors.{least_entry}
-use Rattle.counts.proofs.Joining.{from_more, from_none}
+use Rattle.counts.proofs.Joining.{from_more}
 use Rattle.counts.proofs.directed_count.Goals as goal
 
 pub loop-i-preserved : goal.loop-i-preserved

@@ -1,4 +1,4 @@
-use Rattle.std.proofs.Common.{◌≡◌, ℕ, ◌+◌, ◌*◌, ◌<◌, ◌≤◌, length, get_or, take, sym, ap, ◌∙◌, subst, arith}
+use Rattle.std.proofs.Common.{◌≡◌, ℕ, ◌+◌, ◌*◌, ◌<◌, ◌≤◌, length, get_or, take, ap, ◌∙◌, subst, arith}
 use Rattle.tables.specs.Modules.{allows}
 use Rattle.bounds.specs.Answers.{Rows}
 use Rattle.higher.specs.Greater.{greater}

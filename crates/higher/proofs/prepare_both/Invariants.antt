@@ -1,4 +1,4 @@
-use Rattle.std.proofs.Common.{◌≡◌, ℕ, length, take}
+use Rattle.std.proofs.Common.{◌≡◌, ℕ, length}
 use Rattle.tables.specs.Modules.{allows}
 use Rattle.bounds.specs.Answers.{Rows}
 use Rattle.higher.specs.Greater.{greater}

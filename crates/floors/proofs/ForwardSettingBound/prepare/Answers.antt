@@ -1,6 +1,4 @@
-use lib.ListN.{length}
-use Prim.Native.Nat.{◌≤◌}
-use borrow.Author.Rules.{rules}
+use Rattle.std.proofs.Common.{◌≤◌, length, rules}
 use Rattle.bounds.proofs.Answerable.{begun, begun_holds}
 use Rattle.floors.proofs.ForwardSettingBound.prepare.Goals as goal
 
