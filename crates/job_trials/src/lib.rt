@@ -3,8 +3,8 @@
 
 #[cfg(test)]
 mod tests {
-    use floors::Past;
     use charges::Count;
+    use floors::Past;
     use jobs::job::{Job, Plain};
     use jobs::refusal::Refusal;
     use std::process::Abort;
