@@ -183,7 +183,11 @@ fn reports_are_written(rt: HostRuntime) -> Result<(), Fail> {
         ("what?", Answer::NotACall, "what? -> not a call"),
     ];
     for (line, answer, text) in table {
-        assert!(rt; report(rt.alloc(), line, answer)? == text, "{}", text);
+        assert!(rt;
+            report(rt.alloc(), line, answer)?.as_str() == text,
+            "{}",
+            text
+        );
     }
     Ok(())
 }

@@ -5,7 +5,7 @@ use Rattle.std.proofs.lemmas.Slice.Eq.{bytes_eq-Decides}
 use Rattle.std.proofs.lemmas.Bool.Decides.{not_from_Decides}
 use Rattle.lines.specs.Words.{Word}
 use Rattle.lines.specs.Names.{bound_word}
-use Rattle.lines.specs.Calls.{bound_words, name, Args, Says}
+use Rattle.lines.specs.Calls.{bound_words, Args, Says}
 use Rattle.lines.specs.declared.call.KindName.{KindName}
 use Rattle.lines.specs.declared.call.Walks.{Walks}
 use Rattle.lines.specs.declared.call.SimpleBound.{SimpleBound}

@@ -89,7 +89,7 @@ impl FromWord for SimpleBound {
 
 // The value that the first word of the text says, and what follows that word.
 pub(crate) fn take<T: FromWord>(text: &str) -> Option<(T, &str)>
-    ensures { Takes said (words_of text.now) result }
+    ensures { Takes T.said (words_of text.now) result }
 {
     let (word, rest) = next_word(text)?;
     let value = T::from_word(word)?;

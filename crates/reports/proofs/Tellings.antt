@@ -1,5 +1,5 @@
 -- From what a call on a job decides to what a script is told.
-use Rattle.std.proofs.Common.{◌≡◌, ℕ, Bool, List, Ok, Err, Option, Result, sym, refl, ap, ◌∙◌, subst, MatchOption, MatchResult}
+use Rattle.std.proofs.Common.{◌≡◌, Bool, List, Ok, Err, Option, Result, sym, ap, ◌∙◌, subst, MatchOption, MatchResult}
 use Rattle.jobs.specs.declared.refusal.Refusal.{Refusal}
 use Rattle.jobs.specs.Refusals.{number_of, Decides}
 use Rattle.lines.specs.declared.answer.Figure.{Figure}

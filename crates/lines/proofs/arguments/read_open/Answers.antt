@@ -1,4 +1,4 @@
-use Rattle.std.proofs.Common.{[], ◌∷◌, refl}
+use Rattle.std.proofs.Common.{◌∷◌, refl}
 use Rattle.lines.specs.Names.{kind_word, walks_word}
 use Rattle.lines.specs.Calls.{bound_words}
 use Rattle.lines.specs.Words.{words_of}

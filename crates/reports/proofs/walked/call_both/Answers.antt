@@ -1,4 +1,4 @@
-use Rattle.std.proofs.Common.{◌≡◌, cond, ◌&&◌, length, take, sym, refl, ap, ◌∙◌, subst}
+use Rattle.std.proofs.Common.{cond, ◌&&◌, length, take, sym, refl, ap, ◌∙◌, subst}
 use Rattle.bounds.specs.Beginnings.{answerable, later_setting}
 use Rattle.bound_names.specs.Bounds.{named_with}
 use Rattle.lines.specs.declared.answer.Answer.TheVariants as answer

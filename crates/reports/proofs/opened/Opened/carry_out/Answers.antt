@@ -1,7 +1,7 @@
-use Rattle.std.proofs.Common.{◌≡◌, length, sym, ap, ◌∙◌, subst}
+use Rattle.std.proofs.Common.{length, sym, ap, ◌∙◌, subst}
 use Rattle.reports.specs.declared.opened.Opened.{Opened}
 use Rattle.reports.specs.Performs.{Performs, for_plain, for_both}
-use Rattle.reports.specs.Sessions.{Terms, terms_of, modules_in}
+use Rattle.reports.specs.Sessions.{terms_of, modules_in}
 use Rattle.reports.proofs.opened.Opened.carry_out.Goals as goal
 
 pub returns-in-ForPlain : goal.returns-in-ForPlain
