@@ -8,10 +8,10 @@ ghost use Rattle.tables.specs.Setups.{charge_of};
 ghost use Rattle.bound_names.specs.Laws.{simple_lawful, named_lawful, simple_with_lawful, named_with_lawful};
 
 use bounds::bound::Bound;
+use bounds::higher::Higher;
+use bounds::named::{Directed, Forward, Past};
 use bounds::setting::SettingBound;
 use charges::Charge;
-use bounds::named::{Directed, Forward, Past};
-use bounds::higher::Higher;
 use lines::call::{BoundName, SimpleBound};
 use tables::modules::Modules;
 

@@ -3,8 +3,8 @@
 
 #[cfg(test)]
 mod tests {
-    use charges::Count;
     use bounds::named::Past;
+    use charges::Count;
     use jobs::job::{Job, Plain};
     use jobs::refusal::Refusal;
     use std::process::Abort;
