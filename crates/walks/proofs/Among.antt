@@ -1,14 +1,13 @@
 -- Trails among live settings.
-use Rattle.std.proofs.Common.{◌≡◌, ℕ, zero, suc, ◌+◌, ◌-◌, ◌*◌, ◌<◌, ◌≤◌, Bool, true, ◌&&◌, ltb, leb, List, [], length, get_or, sym, refl, ap, ◌∙◌, subst, arith}
+use Rattle.std.proofs.Common.{◌≡◌, ℕ, zero, suc, ◌+◌, ◌-◌, ◌*◌, ◌<◌, ◌≤◌, true, ◌&&◌, ltb, leb, List, [], length, get_or, sym, refl, subst, arith}
 use Rattle.std.proofs.lemmas.Bool.{and_from, le-leb, lt-ltb}
 use Rattle.tables.specs.declared.modules.Modules.{Modules}
 use Rattle.tables.specs.Modules.{allows}
 use Rattle.tables.specs.Setups.{Holds}
 use Rattle.tables.specs.Sheet.{Whole}
 use Rattle.bounds.specs.Beginnings.{allows_all, begins, answerable}
-use Rattle.walks.specs.Settings.{has}
-use Rattle.walks.specs.Trails.{mask_at, Live, AmongLive, EachFew, EachTaken, EachSome, EachByte, EachAllowed, tree, base, place}
-use Rattle.walks.proofs.Trails.{tree_more, tree_some, times_more}
+use Rattle.walks.specs.Trails.{Live, AmongLive, EachFew, EachTaken, EachSome, EachByte, EachAllowed, tree, base, place}
+use Rattle.walks.proofs.Trails.{tree_more, times_more}
 
 module _ (m : Modules) (path : List ℕ) (live : List (List ℕ)) (d : ℕ) where
   pub together : d ≤ m.count → EachFew m path live d → EachTaken m path live d → EachSome m path live d → EachByte m path live d → EachAllowed m path live d → AmongLive m path live d

@@ -1,9 +1,9 @@
 -- What is struck by the answers in a prepared scratch is struck by the answers themselves.
-use Rattle.std.proofs.Common.{◌≡◌, ℕ, ◌<◌, ◌≤◌, Bool, true, false, ◌&&◌, List, get_or, Some, None, Option, sym, refl, ap, ◌∙◌, ap₂, inl, inr}
+use Rattle.std.proofs.Common.{◌≡◌, ℕ, ◌<◌, ◌≤◌, true, ◌&&◌, List, get_or, Some, None, Option, sym, ap, ◌∙◌, inl, inr}
 use Rattle.std.proofs.lemmas.Bool.{cases_Bool}
 use Rattle.charges.specs.Kinds.{Kind}
 use Rattle.walks.specs.Settings.{has}
-use Rattle.walks.specs.Opening.{under, stays, Dead, Leaves, Strikes, Opens}
+use Rattle.walks.specs.Opening.{under, stays, Strikes, Opens}
 
 module _ (K : Kind) (limit : K.V) (told answer : ℕ → ℕ → K.V) (row : List ℕ) (d n : ℕ)
     (same : (j k : ℕ) → d ≤ j → j < n → k < 8 → has (get_or row j 0) k ≡ true → told j k ≡ answer j k) where

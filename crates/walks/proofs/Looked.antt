@@ -1,12 +1,12 @@
 -- A step that looks at a beginning shorter than a setup.
-use Rattle.std.proofs.Common.{◌≡◌, ℕ, zero, suc, ◌+◌, ◌-◌, ◌<◌, ◌≤◌, Bool, true, false, cond, not, ◌&&◌, ◌⊎◌, List, [], ◌∷◌, length, get_or, take, Some, None, Option, sym, refl, ap, ◌∙◌, subst, ap₂, inl, inr, add-one, arith}
+use Rattle.std.proofs.Common.{◌≡◌, ℕ, ◌-◌, ◌<◌, ◌≤◌, Bool, true, false, cond, List, [], length, get_or, take, Some, None, sym, refl, ap, ◌∙◌, subst, ap₂, inl, inr, add-one, arith}
 use Rattle.std.proofs.lemmas.List.{length-take-le}
 use Rattle.std.proofs.lemmas.Bool.{and_parts, cond-true, cond-false}
 use Rattle.theory.specs.Machine.{Level, beginning, strike, none_empty, next, down, open_to, step}
 use Rattle.charges.specs.Kinds.{Kind}
 use Rattle.tables.specs.declared.modules.Modules.{Modules}
-use Rattle.walks.specs.Opening.{under, stays, Dead, Leaves, Keeps, Opens}
-use Rattle.walks.specs.Settings.{has, domains_from, row_domains, settings_from}
+use Rattle.walks.specs.Opening.{under, stays, Keeps, Opens}
+use Rattle.walks.specs.Settings.{has, domains_from, row_domains}
 use Rattle.walks.specs.States.{problem, by, state_of, setup_of, OnlyMoved}
 use Rattle.walks.specs.Trails.{levels, Live}
 use Rattle.walks.specs.declared.state.Search.{Search}

@@ -1,6 +1,5 @@
 -- What holds of every search.
 use Rattle.std.proofs.Common.{◌≡◌, ℕ, zero, suc, ◌+◌, ◌-◌, ◌<◌, ◌≤◌, List, [], get_or, subst, arith}
-use Rattle.tables.specs.declared.modules.Modules.{Modules}
 use Rattle.walks.specs.declared.state.Search.{Search}
 use Rattle.walks.specs.Trails.{Live, AmongLive, base, place}
 use Rattle.walks.proofs.Among.{together, place_few, tree_small, live_below}

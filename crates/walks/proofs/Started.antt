@@ -1,9 +1,9 @@
 -- The first beginning.
-use Rattle.std.proofs.Common.{◌≡◌, ℕ, zero, suc, ◌+◌, ◌-◌, ◌^◌, ◌<◌, ◌≤◌, true, List, [], get_or, sym, refl, ap, ◌∙◌, subst, arith, pow_mono}
+use Rattle.std.proofs.Common.{◌≡◌, ℕ, ◌-◌, ◌^◌, ◌<◌, ◌≤◌, List, [], get_or, sym, ap, ◌∙◌, subst, arith, pow_mono}
 use Rattle.theory.specs.Machine.{down}
 use Rattle.tables.specs.declared.modules.Modules.{Modules}
 use Rattle.tables.specs.Modules.{module_of, settings_of, mask_of, allows}
-use Rattle.walks.specs.Settings.{has, domains_from, domains, row_domains}
+use Rattle.walks.specs.Settings.{has, domains, row_domains}
 use Rattle.walks.specs.Trails.{levels, Live, AmongLive, GoesDown}
 use Rattle.walks.proofs.Domains.{domains_same}
 use Rattle.walks.proofs.Trails.{live_none}

@@ -1,5 +1,5 @@
 -- The steps of a walk, by cases.
-use Rattle.std.proofs.Common.{◌≡◌, ℕ, zero, suc, ◌+◌, ◌-◌, ◌<◌, ◌≤◌, List, [], ◌∷◌, ◌++◌, length, get_or, take, sym, refl, ap, ◌∙◌, subst, arith, take-suc}
+use Rattle.std.proofs.Common.{◌≡◌, ℕ, zero, suc, ◌≤◌, List, [], ◌∷◌, ◌++◌, length, get_or, take, sym, refl, ap, ◌∙◌, subst, arith, take-suc}
 use mathlib.Core.Option.{Option}
 use Rattle.theory.specs.Machine.{Problem, Walk, Level, level, State, beginning, weigh, look, step_at}
 use Rattle.walks.specs.Trails.{levels}

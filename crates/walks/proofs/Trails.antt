@@ -2,10 +2,10 @@
 use Rattle.std.proofs.Common.{◌≡◌, ℕ, zero, suc, ◌+◌, ◌-◌, ◌*◌, ◌<◌, ◌≤◌, Bool, true, List, [], ◌∷◌, length, get_or, set, sym, refl, ap, ◌∙◌, subst, ap₂, subst₂, inl, inr, arith, get_or-set_other, get_or-set_same}
 use Rattle.std.proofs.lemmas.Nat.{mul-le}
 use Rattle.std.proofs.lemmas.Bool.{cases_lt}
-use Rattle.theory.specs.Machine.{Level, level, next, down}
+use Rattle.theory.specs.Machine.{level, next, down}
 use Rattle.tables.specs.declared.modules.Modules.{Modules}
 use Rattle.walks.specs.Settings.{has, settings_from, domains_from, row_domains}
-use Rattle.walks.specs.Trails.{mask_at, level_at, levels, Live, AmongLive, tree, base, place, GoesOn, GoesDown}
+use Rattle.walks.specs.Trails.{mask_at, levels, Live, AmongLive, tree, base, GoesOn, GoesDown}
 
 -- a trail is as its settings and rows are
 pub levels_same : (path path' : List ℕ) (live live' : List (List ℕ)) (n d : ℕ)

@@ -1,8 +1,7 @@
 -- A step that weighs a setup.
-use Rattle.std.proofs.Common.{◌≡◌, ℕ, zero, suc, ◌+◌, ◌-◌, ◌<◌, ◌≤◌, Bool, true, false, cond, not, List, [], ◌∷◌, length, get_or, take, sym, refl, ap, ◌∙◌, subst, ap₂, add-one, arith, get_or-take}
-use mathlib.Core.Option.{Option, some, none}
-use Rattle.theory.specs.Order.{below}
-use Rattle.theory.specs.Machine.{Problem, Walk, Level, level, State, beginning, next, weigh, look, step_at, step}
+use Rattle.std.proofs.Common.{◌≡◌, ℕ, zero, suc, ◌+◌, ◌-◌, ◌<◌, ◌≤◌, Bool, cond, not, List, [], length, get_or, take, sym, refl, ap, ◌∙◌, ap₂, add-one, arith, get_or-take}
+use mathlib.Core.Option.{Option, some}
+use Rattle.theory.specs.Machine.{Problem, Walk, Level, State, beginning, next, weigh, look, step_at, step}
 use Rattle.charges.specs.Kinds.{Kind}
 use Rattle.tables.specs.declared.modules.Modules.{Modules}
 use Rattle.tables.specs.Joins.{joined}

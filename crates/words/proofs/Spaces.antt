@@ -1,7 +1,7 @@
 -- A text that begins with letters, or with a space.
 use Rattle.std.proofs.Common.{◌≡◌, ℕ, suc, ◌<◌, List, [], ◌∷◌, ◌++◌, length, get_or, sym, refl, ap, ◌∙◌, append_assoc, append-nil, arith}
 use Rattle.std.proofs.lemmas.Bool.{ne_eqb}
-use Rattle.words.specs.Words.{Word, words_after, words_of, kept}
+use Rattle.words.specs.Words.{words_after, words_of}
 
 -- no byte is a space
 abbrev pub Solid : List ℕ → Type 0

@@ -1,5 +1,5 @@
 -- Words that are decimal numbers.
-use Rattle.std.specs.Prelude.{◌≡◌, ℕ, ◌+◌, ◌-◌, ◌*◌, ◌<◌, ◌≤◌, List, [], ◌∷◌, length}
+use Rattle.std.specs.Prelude.{◌≡◌, ℕ, ◌+◌, ◌-◌, ◌*◌, ◌<◌, ◌≤◌, [], ◌∷◌, length}
 use Rattle.words.specs.Words.{Word}
 
 -- each byte is one of the digits 0 to 9, the bytes 48 to 57

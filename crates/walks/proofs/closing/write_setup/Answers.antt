@@ -1,4 +1,4 @@
-use Rattle.std.proofs.Common.{◌≡◌, ◌<◌, length, get_or, set, ap, ◌∙◌, arith, rules}
+use Rattle.std.proofs.Common.{◌<◌, length, get_or, set, ap, ◌∙◌, arith, rules}
 use Rattle.walks.proofs.Written.{front_more}
 use Rattle.walks.proofs.closing.write_setup.Goals as goal
 

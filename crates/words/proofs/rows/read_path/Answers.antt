@@ -1,5 +1,5 @@
 use Rattle.std.proofs.Common.{arith, rules}
-use Rattle.words.proofs.Filling.{Sofar, too_many, no_number, one_more, all_read}
+use Rattle.words.proofs.Filling.{too_many, no_number, one_more, all_read}
 use Rattle.words.proofs.rows.read_path.Goals as goal
 
 pub returns-then-n-eq20 : goal.returns-then-n-eq20

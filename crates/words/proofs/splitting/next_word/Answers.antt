@@ -1,4 +1,4 @@
-use Rattle.std.proofs.Common.{◌≡◌, Some, None, sym, ◌∙◌, arith, lit<, true-eqb, false-eqb}
+use Rattle.std.proofs.Common.{Some, None, sym, ◌∙◌, arith, lit<, true-eqb, false-eqb}
 use Rattle.std.proofs.lemmas.Str.Pattern.{strip_prefix_char, split_parts}
 use Rattle.words.proofs.Spaces.{no_word, word_then_space, word_alone}
 use Rattle.words.proofs.splitting.next_word.Goals as goal

@@ -1,7 +1,6 @@
-use Rattle.std.proofs.Common.{◌≡◌, take, sym, ap, ◌∙◌}
+use Rattle.std.proofs.Common.{take, sym, ap, ◌∙◌}
 use Rattle.higher.specs.Greater.{greater}
 use Rattle.walk_bound_names.specs.declared.names.SettingName.{SettingName}
-use Rattle.walk_bound_names.specs.declared.names.SettingName.TheVariants.{Pair}
 use Rattle.walk_bound_names.specs.Bounds.{simple_of, bound_of, simple_floor, named_floor, simple_with, named_with}
 use Rattle.walk_bound_names.proofs.names.SettingNameSettingBound.prepare.Goals as goal
 

@@ -1,6 +1,5 @@
-use Rattle.std.proofs.Common.{◌≡◌, ℕ, suc, ◌-◌, ◌<◌, ◌≤◌, List, [], length, get_or, take, sym, refl, ap, ◌∙◌, subst, arith, rules}
-use Rattle.walks.specs.declared.state.Search.{Search}
-use Rattle.walks.specs.Trails.{Live, levels}
+use Rattle.std.proofs.Common.{◌≡◌, ℕ, List, length, take, sym, refl, ◌∙◌, arith, rules}
+use Rattle.walks.specs.Trails.{levels}
 use Rattle.walks.proofs.Among.{can_ask}
 use Rattle.walks.proofs.Looked.{live_left, goes_down, goes_past, looks}
 use Rattle.walks.proofs.Searches.{among, live_here}

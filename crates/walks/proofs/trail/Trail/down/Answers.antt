@@ -1,4 +1,4 @@
-use Rattle.std.proofs.Common.{◌<◌, length, set, subst, add-one, rules}
+use Rattle.std.proofs.Common.{◌<◌, length, add-one, rules}
 use Rattle.walks.proofs.Trails.{down_none, down_to}
 use Rattle.walks.proofs.trail.Trail.down.Goals as goal
 

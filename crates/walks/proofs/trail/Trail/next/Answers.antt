@@ -1,4 +1,4 @@
-use Rattle.std.proofs.Common.{◌≡◌, ℕ, suc, ◌+◌, ◌-◌, ◌<◌, ◌≤◌, true, List, [], ◌∷◌, length, get_or, set, sym, refl, ap, ◌∙◌, subst, arith, rules}
+use Rattle.std.proofs.Common.{◌≡◌, ℕ, suc, ◌+◌, ◌-◌, ◌<◌, ◌≤◌, true, [], ◌∷◌, length, get_or, set, sym, refl, subst, arith, rules}
 use Rattle.walks.specs.declared.trail.Trail.{Trail}
 use Rattle.walks.specs.Settings.{has, settings_from}
 use Rattle.walks.specs.Trails.{mask_at, GoesOn}

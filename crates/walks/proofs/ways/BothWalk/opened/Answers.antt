@@ -1,4 +1,4 @@
-use Rattle.std.proofs.Common.{◌≡◌, ℕ, true, not, List, take, sym, ap, ◌∙◌, subst}
+use Rattle.std.proofs.Common.{◌≡◌, ℕ, true, not, take, sym, ap, ◌∙◌, subst}
 use Rattle.walks.specs.Opening.{under, answer_at, Strikes, Opens}
 use Rattle.walks.proofs.Kept.{strikes_same, opens_ahead}
 use Rattle.walks.proofs.ways.BothWalk.opened.Goals as goal
