@@ -10,7 +10,7 @@ ghost use Rattle.bound_names.specs.Laws.{simple_lawful, named_lawful, simple_wit
 use bounds::bound::Bound;
 use bounds::higher::Higher;
 use bounds::named::{Directed, Forward, Past};
-use bounds::setting::SettingBound;
+use bounds::setting::{SettingBound, prepared_answer};
 use charges::Charge;
 use lines::call::{BoundName, SimpleBound};
 use tables::modules::Modules;
@@ -152,6 +152,20 @@ impl<C: Charge> SettingBound<C> for SettingOne {
         subst (λ x. AtMost K x (charge_of K sheet s m.count)) (sym (C.Charge.stands (simple_with K b m sheet p j k)))
         (simple_with_lawful K C.Charge.lawful m sheet p s begins.within starts fine j k is b) };
 
+    fn answer_of(
+        &self,
+        modules: &Modules,
+        sheet: &[u16],
+        path: [u8; 20],
+        len: usize,
+        j: usize,
+        k: u8,
+        scratch: &mut [C],
+    ) -> C {
+        let _ = self.prepare(modules, sheet, path, len, scratch);
+        prepared_answer(modules, len, j, k, scratch)
+    }
+
     fn prepare(
         &self,
         modules: &Modules,
@@ -199,6 +213,20 @@ impl<C: Charge> SettingBound<C> for SettingName {
         let K = C.Charge.kind in
         subst (λ x. AtMost K x (charge_of K sheet s m.count)) (sym (C.Charge.stands (named_with K b m sheet p j k)))
         (named_with_lawful K C.Charge.lawful m sheet p s begins.within starts fine j k is b) };
+
+    fn answer_of(
+        &self,
+        modules: &Modules,
+        sheet: &[u16],
+        path: [u8; 20],
+        len: usize,
+        j: usize,
+        k: u8,
+        scratch: &mut [C],
+    ) -> C {
+        let _ = self.prepare(modules, sheet, path, len, scratch);
+        prepared_answer(modules, len, j, k, scratch)
+    }
 
     fn prepare(
         &self,

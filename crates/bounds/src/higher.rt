@@ -11,7 +11,7 @@ ghost use Rattle.tables.specs.Setups.{charge_of};
 
 use crate::asking::SCRATCH;
 use crate::bound::Bound;
-use crate::setting::SettingBound;
+use crate::setting::{SettingBound, prepared_answer};
 use charges::Charge;
 use tables::modules::Modules;
 
@@ -104,6 +104,20 @@ impl<C: Charge, A: SettingBound<C>, B: SettingBound<C>> SettingBound<C> for High
         (cond_both (K.at_most x y) y x (λ v. AtMost K v (charge_of K sheet s m.count))
         (λ _. B.SettingBound.lawful_with h.second m sheet p s j k begins starts fine is)
         (λ _. A.SettingBound.lawful_with h.first m sheet p s j k begins starts fine is)) };
+
+    fn answer_of(
+        &self,
+        modules: &Modules,
+        sheet: &[u16],
+        path: [u8; 20],
+        len: usize,
+        j: usize,
+        k: u8,
+        scratch: &mut [C],
+    ) -> C {
+        let _ = self.prepare(modules, sheet, path, len, scratch);
+        prepared_answer(modules, len, j, k, scratch)
+    }
 
     fn prepare(
         &self,

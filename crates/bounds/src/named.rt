@@ -7,7 +7,7 @@ ghost use Rattle.bounds.specs.Sound.{past_sound, forward_sound, directed_sound, 
 
 use crate::bound::Bound;
 use crate::counting::{Tally, floor_by, past};
-use crate::setting::SettingBound;
+use crate::setting::{SettingBound, prepared_answer};
 use crate::table::prepare_by;
 use charges::Charge;
 use tables::modules::Modules;
@@ -92,6 +92,20 @@ impl<C: Charge> SettingBound<C> for Forward {
         subst (λ x. AtMost K x (charge_of K sheet s m.count)) (sym (C.Charge.stands (forward_with K m sheet p j k)))
         (forward_with_sound K C.Charge.lawful m sheet p s begins.within starts fine j k is) };
 
+    fn answer_of(
+        &self,
+        modules: &Modules,
+        sheet: &[u16],
+        path: [u8; 20],
+        len: usize,
+        j: usize,
+        k: u8,
+        scratch: &mut [C],
+    ) -> C {
+        let _ = self.prepare(modules, sheet, path, len, scratch);
+        prepared_answer(modules, len, j, k, scratch)
+    }
+
     fn prepare(
         &self,
         modules: &Modules,
@@ -111,6 +125,20 @@ impl<C: Charge> SettingBound<C> for Directed {
         let K = C.Charge.kind in
         subst (λ x. AtMost K x (charge_of K sheet s m.count)) (sym (C.Charge.stands (directed_with K m sheet p j k)))
         (directed_with_sound K C.Charge.lawful m sheet p s begins.within starts fine j k is) };
+
+    fn answer_of(
+        &self,
+        modules: &Modules,
+        sheet: &[u16],
+        path: [u8; 20],
+        len: usize,
+        j: usize,
+        k: u8,
+        scratch: &mut [C],
+    ) -> C {
+        let _ = self.prepare(modules, sheet, path, len, scratch);
+        prepared_answer(modules, len, j, k, scratch)
+    }
 
     fn prepare(
         &self,

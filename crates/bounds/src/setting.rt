@@ -1,5 +1,5 @@
 // What a setting bound is.
-ghost use Rattle.std.specs.Prelude.{◌≡◌, ℕ, true, cond, ◌&&◌, List, length, take, slice_index};
+ghost use Rattle.std.specs.Prelude.{◌≡◌, ◌≤◌, ℕ, true, cond, ◌&&◌, List, length, take, slice_index};
 ghost use Rattle.bounds.specs.Answers.{Rows};
 ghost use Rattle.bounds.specs.Beginnings.{Beginning, Setup, Starts, answerable, later_setting};
 ghost use Rattle.charges.specs.Kinds.{AtMost};
@@ -18,8 +18,8 @@ pub trait SettingBound<C: Charge>: Bound<C> {
     // the answer for setting k of the later module j
     ghost answer: { Self → Modules → List ℕ → List ℕ → ℕ → ℕ → C };
 
-    /// The answer for setting `k` of the later module `j`. A bound that has all answers at once keeps this, which prepares
-    /// them.
+    /// The answer for setting `k` of the later module `j`. A bound that has all answers at once gives it by `prepare` and
+    /// `prepared_answer`.
     fn answer_of(
         &self,
         modules: &Modules,
@@ -32,14 +32,10 @@ pub trait SettingBound<C: Charge>: Bound<C> {
     ) -> C
         requires begun { answerable modules.now sheet.now path len (length scratch.old) ≡ true }
         requires later { later_setting modules.now len j k ≡ true }
-        ensures { C.Charge.means result ≡ C.Charge.means (answer self.now modules.now sheet.now (take len path) j k) }
-    {
-        let _ = self.prepare(modules, sheet, path, len, scratch);
-        scratch[8 * j + k as usize]
-    }
+        ensures { C.Charge.means result ≡ C.Charge.means (answer self.now modules.now sheet.now (take len path) j k) };
 
     /// Writes the answer for each allowed setting `k` of each later module `j` to `8j + k` of the scratch, and gives the
-    /// floor. A bound that has all answers at once writes its own; one that gives `answer_of` alone calls `prepare_each`.
+    /// floor. A bound that has all answers at once writes its own; kept, this one asks `answer_of` for each.
     fn prepare(
         &self,
         modules: &Modules,
@@ -50,7 +46,20 @@ pub trait SettingBound<C: Charge>: Bound<C> {
     ) -> C
         requires { answerable modules.now sheet.now path len (length scratch.old) ≡ true }
         ensures answers { Rows C.Charge.means (allows modules.now) (λ j k. C.Charge.means (answer self.now modules.now sheet.now (take len path) j k)) len modules.now.count scratch.new }
-        ensures value { C.Charge.means result ≡ C.Charge.means (Self.Bound.floor self.now modules.now sheet.now (take len path)) };
+        ensures value { C.Charge.means result ≡ C.Charge.means (Self.Bound.floor self.now modules.now sheet.now (take len path)) }
+    {
+        let floor = self.floor_of(modules, sheet, path, len, scratch);
+        for j in len..modules.count() {
+            for k in 0..8u8 {
+                if modules.allows(j, k) {
+                    let mut room = [C::zero(); SCRATCH];
+                    let more = self.answer_of(modules, sheet, path, len, j, k, &mut room);
+                    scratch[8 * j + k as usize] = more;
+                }
+            }
+        }
+        floor
+    }
 
     /// The answer for every input: zero where `floor_at` answers zero for want of a beginning or of memory, where `j` is no
     /// later module, and where `k` is not allowed there.
@@ -80,28 +89,17 @@ pub trait SettingBound<C: Charge>: Bound<C> {
     ghost lawful_with: { (b : Self) (m : Modules) (sheet p s : List ℕ) (j k : ℕ) → Beginning m p → Starts p s → Setup m s → slice_index s j ≡ k → AtMost C.Charge.kind (C.Charge.means (answer b m sheet p j k)) (charge_of C.Charge.kind sheet s m.count) };
 }
 
-/// What `prepare` does, for a bound that gives `answer_of`, which is asked for each setting.
-pub fn prepare_each<C: Charge, B: SettingBound<C>>(
-    bound: &B,
+/// The answer for setting `k` of the later module `j` in a scratch that was prepared.
+pub fn prepared_answer<C: Charge>(
     modules: &Modules,
-    sheet: &[u16],
-    path: [u8; 20],
     len: usize,
-    scratch: &mut [C],
+    j: usize,
+    k: u8,
+    scratch: &[C],
 ) -> C
-    requires { answerable modules.now sheet.now path len (length scratch.old) ≡ true }
-    ensures answers { Rows C.Charge.means (allows modules.now) (λ j k. C.Charge.means (B.SettingBound.answer bound.now modules.now sheet.now (take len path) j k)) len modules.now.count scratch.new }
-    ensures value { C.Charge.means result ≡ C.Charge.means (B.Bound.floor bound.now modules.now sheet.now (take len path)) }
+    requires roomy { 192 ≤ length scratch.now }
+    requires later { later_setting modules.now len j k ≡ true }
+    ensures { (value : ℕ → ℕ → C.Charge.kind.V) → Rows C.Charge.means (allows modules.now) value len modules.now.count scratch.now → C.Charge.means result ≡ value j k }
 {
-    let floor = bound.floor_of(modules, sheet, path, len, scratch);
-    for j in len..modules.count() {
-        for k in 0..8u8 {
-            if modules.allows(j, k) {
-                let mut room = [C::zero(); SCRATCH];
-                let more = bound.answer_of(modules, sheet, path, len, j, k, &mut room);
-                scratch[8 * j + k as usize] = more;
-            }
-        }
-    }
-    floor
+    scratch[8 * j + k as usize]
 }

@@ -8,7 +8,7 @@ ghost use Rattle.tables.specs.Setups.{charge_of};
 ghost use Rattle.counts.proofs.Sound.{past_sound, forward_sound, directed_sound, forward_with_sound, directed_with_sound};
 
 use bounds::bound::Bound;
-use bounds::setting::SettingBound;
+use bounds::setting::{SettingBound, prepared_answer};
 use charges::Charge;
 use count_table::prepare_by;
 use counts::{Tally, floor_by, past};
@@ -94,6 +94,20 @@ impl<C: Charge> SettingBound<C> for Forward {
         subst (λ x. AtMost K x (charge_of K sheet s m.count)) (sym (C.Charge.stands (forward_with K m sheet p j k)))
         (forward_with_sound K C.Charge.lawful m sheet p s begins.within starts fine j k is) };
 
+    fn answer_of(
+        &self,
+        modules: &Modules,
+        sheet: &[u16],
+        path: [u8; 20],
+        len: usize,
+        j: usize,
+        k: u8,
+        scratch: &mut [C],
+    ) -> C {
+        let _ = self.prepare(modules, sheet, path, len, scratch);
+        prepared_answer(modules, len, j, k, scratch)
+    }
+
     fn prepare(
         &self,
         modules: &Modules,
@@ -113,6 +127,20 @@ impl<C: Charge> SettingBound<C> for Directed {
         let K = C.Charge.kind in
         subst (λ x. AtMost K x (charge_of K sheet s m.count)) (sym (C.Charge.stands (directed_with K m sheet p j k)))
         (directed_with_sound K C.Charge.lawful m sheet p s begins.within starts fine j k is) };
+
+    fn answer_of(
+        &self,
+        modules: &Modules,
+        sheet: &[u16],
+        path: [u8; 20],
+        len: usize,
+        j: usize,
+        k: u8,
+        scratch: &mut [C],
+    ) -> C {
+        let _ = self.prepare(modules, sheet, path, len, scratch);
+        prepared_answer(modules, len, j, k, scratch)
+    }
 
     fn prepare(
         &self,

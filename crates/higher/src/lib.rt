@@ -13,7 +13,7 @@ ghost use Rattle.tables.specs.Setups.{charge_of};
 
 use bounds::asking::SCRATCH;
 use bounds::bound::Bound;
-use bounds::setting::SettingBound;
+use bounds::setting::{SettingBound, prepared_answer};
 use charges::Charge;
 use tables::modules::Modules;
 
@@ -106,6 +106,20 @@ impl<C: Charge, A: SettingBound<C>, B: SettingBound<C>> SettingBound<C> for High
         (cond_both (K.at_most x y) y x (λ v. AtMost K v (charge_of K sheet s m.count))
         (λ _. B.SettingBound.lawful_with h.second m sheet p s j k begins starts fine is)
         (λ _. A.SettingBound.lawful_with h.first m sheet p s j k begins starts fine is)) };
+
+    fn answer_of(
+        &self,
+        modules: &Modules,
+        sheet: &[u16],
+        path: [u8; 20],
+        len: usize,
+        j: usize,
+        k: u8,
+        scratch: &mut [C],
+    ) -> C {
+        let _ = self.prepare(modules, sheet, path, len, scratch);
+        prepared_answer(modules, len, j, k, scratch)
+    }
 
     fn prepare(
         &self,

@@ -4,8 +4,8 @@ use Rattle.tables.specs.Modules.{allows}
 use Rattle.bounds.specs.Answers.{Rows}
 use Rattle.bounds.proofs.Answerable.{begun}
 use Rattle.bounds.proofs.Rows.{Row, row_written, row_skipped, rows_kept, rows_and_row}
-use Rattle.bounds.proofs.setting.prepare_each.Goals as goal
-use Rattle.bounds.proofs.setting.prepare_each.Goals.{then-allows, else-allows}
+use Rattle.bounds.proofs.setting.SettingBound.prepare.Goals as goal
+use Rattle.bounds.proofs.setting.SettingBound.prepare.Goals.{then-allows, else-allows}
 
 -- the caller's scratch is as long, and fits
 pub whole_as_slice-answer_of : goal.whole_as_slice-answer_of
@@ -23,7 +23,7 @@ loop-k-preserved g c =
     let j = c.loop-j.j in
     let k = c.loop-k.k in
     let xs = c.loop-k.scratch in
-    let value : ℕ → ℕ → V = λ i l. means (g.B.SettingBound.answer c.args.bound.now m c.args.sheet.now (take len c.args.path) i l) in
+    let value : ℕ → ℕ → V = λ i l. means (g.Self.SettingBound.answer c.args.self.now m c.args.sheet.now (take len c.args.path) i l) in
     let inv = c.loop-k.invariant in
     let within : 8 * j + k < length xs = omega (arith, inv.0, m.few) in
     elim c.if-allows.branch [
@@ -49,7 +49,7 @@ loop-j-preserved g c =
     let m = c.args.modules.now in
     let len = c.args.len in
     let j = c.loop-j.j in
-    let value : ℕ → ℕ → V = λ i l. means (g.B.SettingBound.answer c.args.bound.now m c.args.sheet.now (take len c.args.path) i l) in
+    let value : ℕ → ℕ → V = λ i l. means (g.Self.SettingBound.answer c.args.self.now m c.args.sheet.now (take len c.args.path) i l) in
     let inv = c.loop-k.invariant in
     let whole : c.loop-k.k ≡ 8 = omega arith in (
       inv.0,

@@ -1,10 +1,7 @@
 use Rattle.std.proofs.Common.{◌+◌, ◌*◌, ◌<◌, length, ap, ◌∙◌, arith, rules}
 use Rattle.bounds.specs.Allowing.{allows_few}
-use Rattle.bounds.proofs.Answerable.{begun, later_parts, setting_within}
-use Rattle.bounds.proofs.setting.SettingBound.answer_of.Goals as goal
-
-pub prepare-requires : goal.prepare-requires
-prepare-requires g c = c.requires.begun
+use Rattle.bounds.proofs.Answerable.{later_parts, setting_within}
+use Rattle.bounds.proofs.setting.prepared_answer.Goals as goal
 
 pub overflow_mul-result : goal.overflow_mul-result
 overflow_mul-result g c =
@@ -18,19 +15,17 @@ overflow_add-result g c =
 
 pub bounds-scratch-j : goal.bounds-scratch-j
 bounds-scratch-j g c =
-    let m = c.args.modules.now in
-    let b = begun m c.args.sheet.now c.args.path c.args.len (length c.args.scratch.now) c.requires.begun in
-    let low = setting_within m c.args.len c.args.j c.args.k c.requires.later in
-    omega (arith, b.roomy)
+    let low = setting_within c.args.modules.now c.args.len c.args.j c.args.k c.requires.later in
+    omega (arith, c.requires.roomy)
 
 pub offset_bounds-scratch-j : goal.offset_bounds-scratch-j
 offset_bounds-scratch-j g c =
-    let within : 8 * c.args.j + c.args.k < length c.prepare.new.scratch = bounds-scratch-j g c in
+    let within : 8 * c.args.j + c.args.k < length c.args.scratch.now = bounds-scratch-j g c in
     search rules
 
 pub returns : goal.returns
-returns g c =
+returns g c value rows =
     let m = c.args.modules.now in
     let parts = later_parts m c.args.len c.args.j c.args.k c.requires.later in
     ap g.C.Charge.means c.index-scratch-j.is
-    ∙ c.prepare.ensures.answers c.args.j parts.0 parts.1 c.args.k (allows_few m c.args.j c.args.k parts.2) parts.2 c.index-scratch-j.result
+    ∙ rows c.args.j parts.0 parts.1 c.args.k (allows_few m c.args.j c.args.k parts.2) parts.2 c.index-scratch-j.result
