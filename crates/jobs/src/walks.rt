@@ -4,7 +4,6 @@ ghost use Rattle.bounds.specs.Beginnings.{Beginning, Setup, Starts, answerable};
 ghost use Rattle.charges.specs.Kinds.{AtMost};
 ghost use Rattle.tables.specs.Setups.{charge_of};
 ghost use Rattle.tables.specs.declared.modules.Modules.{Modules};
-ghost use Rattle.std.proofs.Common.{rules};
 
 use crate::job::{Both, Plain};
 use bounds::bound::Bound;
@@ -34,7 +33,7 @@ pub trait Walk<C: Charge>: Drop {
 impl<C: Charge, B: Bound<C>> Walk<C> for Plain<B> {
     ghost floor = { λ w. B.Bound.floor w.bound };
 
-    ghost lawful = { Prim.search rules };
+    ghost lawful = { λ w. B.Bound.lawful w.bound };
 
     fn floor_at(
         &self,
@@ -51,7 +50,7 @@ impl<C: Charge, B: Bound<C>> Walk<C> for Plain<B> {
 impl<C: Charge, B: SettingBound<C>> Walk<C> for Both<B> {
     ghost floor = { λ w. B.Bound.floor w.bound };
 
-    ghost lawful = { Prim.search rules };
+    ghost lawful = { λ w. B.Bound.lawful w.bound };
 
     fn floor_at(
         &self,
