@@ -4,9 +4,9 @@ ghost use Rattle.std.specs.Prelude.{◌≡◌, true};
 
 use charges::Count;
 use floors::Past;
+use tables::sheet::ENTRIES;
 use walk_jobs::job::Job;
 use walk_jobs::ticket::Ticket;
-use tables::sheet::ENTRIES;
 use walks::ways::Plain;
 
 // The ticket of another job, which has a walk open.
