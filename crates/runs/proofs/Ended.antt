@@ -1,5 +1,5 @@
 -- What a close tells of a finished walk is found.
-use Rattle.std.proofs.Common.{◌≡◌, ℕ, ◌+◌, ◌-◌, ◌≤◌, min, Bool, true, false, cond, List, [], ◌∷◌, ◌++◌, length, take, drop, IfSome, sym, refl, ap, ◌∙◌, subst, ap₂, arith, length-append, length-drop}
+use Rattle.std.proofs.Common.{◌≡◌, ℕ, ◌-◌, ◌≤◌, min, Bool, true, false, cond, List, [], ◌∷◌, ◌++◌, length, take, drop, IfSome, sym, refl, ap, ◌∙◌, subst, ap₂, arith, length-append, length-drop}
 use mathlib.Core.Option.{Option, some, none}
 use lib.Seq.{take-append_seam, drop-append_seam}
 use borrow.Rule.Slice.PartMut.{same_len_mid}
@@ -12,17 +12,16 @@ use Rattle.charges.specs.Kinds.{Kind, Lawful}
 use Rattle.tables.specs.declared.modules.Modules.{Modules}
 use Rattle.walks.specs.declared.outcome.Closed.{Closed}
 use Rattle.walks.specs.declared.state.Search.{Search}
-use Rattle.walks.specs.Outcomes.{fixed, none_left, finished, is_some, written, Closes}
-use Rattle.walks.specs.States.{state_of, setup_of}
+use Rattle.walks.specs.Outcomes.{fixed, none_left, finished, is_some, written}
+use Rattle.walks.specs.States.{state_of}
 use Rattle.finding.specs.Bounding.{LawfulBounding}
-use Rattle.finding.specs.Found.{Found, after_steps}
+use Rattle.finding.specs.Found.{Found}
 use Rattle.finding.proofs.Allowed.{setups_fit}
 use Rattle.finding.proofs.Endings.{found_at_end}
 use Rattle.walk_jobs.specs.Checks.{close_checks}
 use Rattle.walk_jobs.specs.Refusals.{first}
 use Rattle.walk_jobs.specs.Searching.{is_open, ClosesOpen}
 use Rattle.runs.specs.declared.answer.Answer.{Answer}
-use Rattle.runs.specs.declared.answer.Answer.TheVariants as answer
 use Rattle.runs.specs.declared.call.Call.TheVariants.{Add, Charge, Narrow, Start, Sit, Weigh, WhatIf, Close}
 use Rattle.runs.specs.declared.call.BothCall.{BothCall}
 use Rattle.runs.specs.declared.call.BothCall.TheVariants.{Plain, StartAhead}

@@ -8,7 +8,7 @@ use Rattle.walk_jobs.specs.declared.refusal.Refusal.{Refusal}
 use Rattle.walk_jobs.specs.Refusals.{first, Decides}
 use Rattle.walk_jobs.specs.Searching.{ClosesOpen}
 use Rattle.runs.specs.declared.call.Row.{Row}
-use Rattle.runs.specs.Stands.{begin_of, size_of, row_of, with_row}
+use Rattle.runs.specs.Stands.{size_of, row_of, with_row}
 
 module _ (memory : List ℕ) (row : Row) (from len : ℕ) (from_is : from ≡ min row.from (length memory)) (len_is : len ≡ min row.len (length memory - from)) where
   size_is : from + len - from ≡ size_of memory row

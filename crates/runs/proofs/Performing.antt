@@ -1,8 +1,7 @@
 -- Runs, and what is found in them.
-use Rattle.std.proofs.Common.{◌≡◌, ℕ, List, [], ◌∷◌, ◌++◌, sym, refl, ap, ◌∙◌, subst}
+use Rattle.std.proofs.Common.{ℕ, List, [], ◌∷◌, ◌++◌, sym, refl, subst}
 use Rattle.charges.specs.Kinds.{Kind, Lawful}
 use Rattle.tables.specs.declared.modules.Modules.{Modules}
-use Rattle.finding.specs.Alike.{Alike}
 use Rattle.finding.specs.Bounding.{Bounding, LawfulBounding}
 use Rattle.finding.specs.Found.{Found}
 use Rattle.finding.proofs.Agreeing.{agree}

@@ -1,5 +1,5 @@
 -- Where a run can have brought a walk.
-use Rattle.std.proofs.Common.{◌≡◌, ℕ, zero, suc, ◌+◌, ◌<◌, ◌≤◌, min, Bool, true, false, cond, List, [], ◌∷◌, IfSome, Some, None, Option, sym, refl, ap, ◌∙◌, subst, subst₂, arith, MatchOption}
+use Rattle.std.proofs.Common.{◌≡◌, ℕ, zero, suc, ◌+◌, ◌≤◌, min, Bool, true, false, List, [], ◌∷◌, IfSome, Some, None, Option, sym, refl, ap, ◌∙◌, subst, subst₂, arith, MatchOption}
 use Rattle.std.proofs.lemmas.Bool.{eqb-false, false≢true}
 use Rattle.theory.specs.Machine.{Problem, Walk, State, step}
 use Rattle.charges.specs.Kinds.{Kind}
@@ -14,11 +14,10 @@ use Rattle.walk_jobs.specs.Checks.{start_checks, add_checks, charge_checks, narr
 use Rattle.walk_jobs.specs.Refusals.{first}
 use Rattle.walk_jobs.specs.Searching.{is_open, Starts, Sits, SitsOpen}
 use Rattle.runs.specs.declared.answer.Answer.{Answer}
-use Rattle.runs.specs.declared.call.Call.{Call}
 use Rattle.runs.specs.declared.call.Call.TheVariants.{Add, Charge, Narrow, Start, Sit, Weigh, WhatIf, Close}
 use Rattle.runs.specs.declared.call.BothCall.{BothCall}
 use Rattle.runs.specs.declared.call.BothCall.TheVariants.{Plain, StartAhead}
-use Rattle.runs.specs.Does.{Tells, Begins, Does, DoesBoth}
+use Rattle.runs.specs.Does.{Begins, DoesBoth}
 use Rattle.runs.specs.Runs.{bounding}
 use Rattle.runs.specs.Stands.{Stand, row_of}
 

@@ -1,5 +1,5 @@
 -- How a call's decision is told.
-use Rattle.std.proofs.Common.{◌≡◌, ℕ, Bool, List, Some, None, Ok, Err, Option, Result, sym, refl, subst, MatchOption}
+use Rattle.std.proofs.Common.{◌≡◌, ℕ, Bool, List, Some, None, Ok, Err, Result, sym, refl, subst, MatchOption}
 use Rattle.charges.specs.Kinds.{Kind}
 use Rattle.tables.specs.declared.modules.Modules.{Modules}
 use Rattle.walks.specs.declared.outcome.Closed.{Closed}

@@ -6,7 +6,7 @@ use Rattle.answers.specs.declared.answer.Answer.TheVariants.{NotACall}
 use Rattle.walk_lines.specs.declared.line.Line.{Line}
 use Rattle.walk_lines.specs.declared.line.Line.TheVariants.{Skipped, NoCall, Call}
 use Rattle.walk_reports.specs.declared.opened.AnyJob.{AnyJob}
-use Rattle.walk_reports.specs.declared.told.Told.{Told}
+use Rattle.walk_reports.specs.declared.printed.Told.{Told}
 use Rattle.walk_reports.specs.Sessions.{Answers}
 
 -- what is read does nothing and gets no answer, or does nothing and is told that it is no call, or is a call

@@ -30,7 +30,7 @@ use Rattle.walk_reports.specs.declared.opened.AnyJob.{AnyJob}
 use Rattle.walk_reports.specs.declared.opened.AnyJob.TheVariants.{ByCount, BySum, ByWorst, ByRank}
 use Rattle.walk_reports.specs.declared.opened.Opened.{Opened}
 use Rattle.walk_reports.specs.declared.opened.Opened.TheVariants.{ForPlain, ForBoth}
-use Rattle.walk_reports.specs.declared.told.Told.{Told}
+use Rattle.walk_reports.specs.declared.printed.Told.{Told}
 use Rattle.walk_reports.specs.Figures.{number_figure, rank_figure, count_said, sum_said, worst_said, rank_said}
 use Rattle.walk_reports.specs.Walking.{Leaves}
 use Rattle.walk_reports.specs.Performs.{Opening, for_plain, for_both, Terms, Performs}

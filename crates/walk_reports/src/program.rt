@@ -1,7 +1,7 @@
 // A script from standard input.
+use crate::printed::Told;
 use crate::script::follow;
 use crate::session::end;
-use crate::told::Told;
 use answers::answer::Answer;
 use answers::report::report;
 use std::alloc::AllocError;

@@ -2,8 +2,8 @@
 ghost use Rattle.walk_reports.specs.Scripts.{Follows};
 
 use crate::opened::AnyJob;
+use crate::printed::Told;
 use crate::session::answer;
-use crate::told::Told;
 use answers::answer::Answer;
 use walk_lines::line::{Line, read_line};
 

@@ -7,16 +7,16 @@ ghost use Rattle.std.specs.Prelude.{◌≡◌, true, false, length, replicate, M
 
 use crate::figured::Figured;
 use crate::opened::{AnyJob, Opened};
-use crate::told::Told;
+use crate::printed::Told;
 use crate::walked::{call_both, call_plain};
 use crate::walking::leave;
 use answers::answer::Answer;
-use walk_bound_names::names::{Named, setting_name};
 use bounds::asking::SCRATCH;
 use calls::call::{BoundName, Call, KindName, Walks};
 use charges::{Charge, Count, Ranked, Sum, Worst};
 use desks::desk::Desk;
 use told::closing::Closing;
+use walk_bound_names::names::{Named, setting_name};
 
 impl<C: Figured> Opened<C> {
     // A fresh job; `None` where the bound is no setting bound and both walks are asked for.

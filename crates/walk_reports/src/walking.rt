@@ -10,9 +10,9 @@ use answers::answer::Answer;
 use bounds::setting::SettingBound;
 use charges::Charge;
 use desks::desk::Desk;
-use walk_jobs::refusal::Refusal;
 use told::closing::{Closing, Setup};
 use told::figure::Figure;
+use walk_jobs::refusal::Refusal;
 use walks::outcome::Closed;
 use walks::ways::{Both, Walk};
 

@@ -1,4 +1,4 @@
-use Rattle.std.proofs.Common.{◌≡◌, length, sym, refl, subst}
+use Rattle.std.proofs.Common.{length, sym, refl, subst}
 use Rattle.runs.specs.declared.answer.Answer.TheVariants as answer
 use Rattle.runs.specs.declared.call.Call.{Call}
 use Rattle.runs.specs.Does.{Does}

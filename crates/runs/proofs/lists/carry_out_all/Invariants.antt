@@ -1,5 +1,4 @@
 use Rattle.std.proofs.Common.{◌≡◌, length}
-use Rattle.desks.specs.declared.desk.Desk.{Desk}
 use Rattle.runs.specs.declared.call.BothCall.TheVariants.{Plain}
 use Rattle.runs.proofs.Carried.{Carried}
 use Rattle.runs.proofs.lists.carry_out_all.Given as goal

@@ -1,4 +1,4 @@
-use Rattle.std.proofs.Common.{◌≡◌, ℕ, ◌<◌, List, length, sym, ◌∙◌, subst, arith}
+use Rattle.std.proofs.Common.{◌<◌, length, sym, ◌∙◌, subst, arith}
 use Rattle.runs.specs.Does.{DoesBoth}
 use Rattle.runs.specs.Stands.{Stand}
 use Rattle.walks.specs.declared.ways.Both.{Both}

@@ -1,6 +1,4 @@
 use Rattle.std.proofs.Common.{◌≡◌, length}
-use Rattle.desks.specs.declared.desk.Desk.{Desk}
-use Rattle.walks.specs.declared.ways.Both.{Both}
 use Rattle.runs.proofs.Carried.{Carried}
 use Rattle.runs.proofs.lists.carry_out_all_both.Given as goal
 

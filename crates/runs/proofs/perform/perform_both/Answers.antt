@@ -1,4 +1,4 @@
-use Rattle.std.proofs.Common.{◌≡◌, ℕ, List, map, length, take, refl, subst, map-id}
+use Rattle.std.proofs.Common.{length, take, subst, map-id}
 use Rattle.finding.specs.Bounding.{LawfulBounding}
 use Rattle.runs.specs.Runs.{Runs, bounding, Fresh}
 use Rattle.runs.specs.Stands.{Stand}

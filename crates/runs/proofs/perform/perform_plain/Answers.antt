@@ -1,4 +1,4 @@
-use Rattle.std.proofs.Common.{◌≡◌, ℕ, List, map, length, take, refl, subst}
+use Rattle.std.proofs.Common.{map, length, take, subst}
 use Rattle.finding.specs.Bounding.{LawfulBounding}
 use Rattle.runs.specs.declared.call.BothCall.TheVariants.{Plain}
 use Rattle.runs.specs.Runs.{Runs, bounding, Fresh}
