@@ -1,4 +1,4 @@
-use Rattle.std.proofs.Common.{length, sym, ap, ◌∙◌, subst}
+use Rattle.std.proofs.Common.{length, sym, subst}
 use Rattle.walk_reports.specs.declared.opened.Opened.{Opened}
 use Rattle.walk_reports.specs.declared.opened.Opened.TheVariants.{ForPlain, ForBoth}
 use Rattle.walk_reports.specs.Performs.{for_plain, for_both}
