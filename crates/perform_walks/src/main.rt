@@ -1,8 +1,8 @@
 // perform: carries out a script of calls from standard input, and prints each call with its answer.
 #![tactic(auto)]
 
-use walk_reports::program::perform;
 use std::io;
+use walk_reports::program::perform;
 
 fn main(rt: HostRuntime) -> io::Result<()> {
     perform(&rt)

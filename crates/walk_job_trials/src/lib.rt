@@ -5,9 +5,9 @@
 mod tests {
     use charges::Count;
     use floors::Past;
+    use std::process::Abort;
     use walk_jobs::job::Job;
     use walk_jobs::refusal::Refusal;
-    use std::process::Abort;
     use walks::ways::Plain;
 
     // A job that counts clashes.

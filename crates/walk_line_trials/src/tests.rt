@@ -2,9 +2,9 @@
 use answers::answer::Answer;
 use answers::report::report;
 use calls::call::{BoundName, Call, KindName, SimpleBound, Walks};
-use walk_lines::line::{Line, read_call, read_line};
 use std::test::Fail;
 use told::figure::Figure;
+use walk_lines::line::{Line, read_call, read_line};
 
 const CALLS: [&str; 22] = [
     "open 7 count plain past",

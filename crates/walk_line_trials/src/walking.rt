@@ -2,10 +2,10 @@
 use answers::answer::Answer;
 use answers::report::report;
 use calls::call::Call;
-use walk_lines::line::{Line, read_call, read_line};
 use std::test::Fail;
 use told::closing::{Closing, Setup};
 use told::figure::Figure;
+use walk_lines::line::{Line, read_call, read_line};
 
 const CALLS: [&str; 14] = [
     "start 0",

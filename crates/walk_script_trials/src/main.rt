@@ -1,8 +1,8 @@
 // A script of random calls, whose answers were made by the independent implementation in reference/.
 #![tactic(auto)]
 
-use walk_reports::program::perform;
 use std::io;
+use walk_reports::program::perform;
 
 fn main(rt: HostRuntime) -> io::Result<()> {
     perform(&rt)
