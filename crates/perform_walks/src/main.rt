@@ -1,4 +1,4 @@
-// perform: carries out a script of calls from standard input, and prints each call with its answer.
+// perform_walks: carries out a script of calls from standard input, those of walking too, and prints each call with its answer.
 #![tactic(auto)]
 
 use std::io;
