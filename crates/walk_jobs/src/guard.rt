@@ -10,7 +10,7 @@ pub(crate) struct Restore<'a> {
 
 impl Restore<'_> {
     pub(crate) fn bytes(&self) -> &[u8]
-        ensures { result.now ≡ self.entry.now.row.now }
+        ensures { result.now ≡ self.now.row.now }
     {
         self.row
     }
