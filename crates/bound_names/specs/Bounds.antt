@@ -2,12 +2,12 @@
 use Rattle.std.specs.Prelude.{ℕ, List}
 use Rattle.charges.specs.Kinds.{Kind}
 use Rattle.tables.specs.declared.modules.Modules.{Modules}
-use Rattle.bounds.specs.Floors.{past_charge, forward_floor, forward_with, directed_floor, directed_with}
-use Rattle.bounds.specs.Greater.{greater}
-use Rattle.lines.specs.declared.call.BoundName.{BoundName}
-use Rattle.lines.specs.declared.call.BoundName.TheVariants.{One, Higher}
-use Rattle.lines.specs.declared.call.SimpleBound.{SimpleBound}
-use Rattle.lines.specs.declared.call.SimpleBound.TheVariants.{Past, Forward, Directed}
+use Rattle.counts.specs.Floors.{past_charge, forward_floor, forward_with, directed_floor, directed_with}
+use Rattle.higher.specs.Greater.{greater}
+use Rattle.calls.specs.declared.call.BoundName.{BoundName}
+use Rattle.calls.specs.declared.call.BoundName.TheVariants.{One, Higher}
+use Rattle.calls.specs.declared.call.SimpleBound.{SimpleBound}
+use Rattle.calls.specs.declared.call.SimpleBound.TheVariants.{Past, Forward, Directed}
 use Rattle.bound_names.specs.declared.names.SettingName.{SettingName}
 use Rattle.bound_names.specs.declared.names.SettingName.TheVariants.{Single, Pair}
 use Rattle.bound_names.specs.declared.names.SettingOne.{SettingOne}

@@ -5,12 +5,12 @@ use Rattle.charges.specs.Kinds.{Kind, Lawful, AtMost}
 use Rattle.tables.specs.declared.modules.Modules.{Modules}
 use Rattle.tables.specs.Setups.{charge_of}
 use Rattle.bounds.specs.Beginnings.{Setup, Starts}
-use Rattle.bounds.specs.Greater.{greater}
-use Rattle.bounds.specs.Sound.{past_sound, forward_sound, forward_with_sound, directed_sound, directed_with_sound}
-use Rattle.lines.specs.declared.call.BoundName.{BoundName}
-use Rattle.lines.specs.declared.call.BoundName.TheVariants.{One, Higher}
-use Rattle.lines.specs.declared.call.SimpleBound.{SimpleBound}
-use Rattle.lines.specs.declared.call.SimpleBound.TheVariants.{Past, Forward, Directed}
+use Rattle.higher.specs.Greater.{greater}
+use Rattle.counts.proofs.Sound.{past_sound, forward_sound, forward_with_sound, directed_sound, directed_with_sound}
+use Rattle.calls.specs.declared.call.BoundName.{BoundName}
+use Rattle.calls.specs.declared.call.BoundName.TheVariants.{One, Higher}
+use Rattle.calls.specs.declared.call.SimpleBound.{SimpleBound}
+use Rattle.calls.specs.declared.call.SimpleBound.TheVariants.{Past, Forward, Directed}
 use Rattle.bound_names.specs.declared.names.SettingName.{SettingName}
 use Rattle.bound_names.specs.declared.names.SettingName.TheVariants.{Single, Pair}
 use Rattle.bound_names.specs.declared.names.SettingOne.{SettingOne}

@@ -1,6 +1,6 @@
 // Bounds by their names.
 ghost use Rattle.bound_names.specs.Bounds.{simple_floor, named_floor, simple_with, named_with, simple_of, bound_of};
-ghost use Rattle.lines.specs.Calls.{setting_one, setting};
+ghost use Rattle.calls.specs.Calls.{setting_one, setting};
 ghost use Rattle.std.specs.Prelude.{◌≡◌, true, false, MatchOption};
 ghost use Rattle.std.proofs.Common.{sym, subst};
 ghost use Rattle.charges.specs.Kinds.{AtMost};
@@ -8,11 +8,11 @@ ghost use Rattle.tables.specs.Setups.{charge_of};
 ghost use Rattle.bound_names.specs.Laws.{simple_lawful, named_lawful, simple_with_lawful, named_with_lawful};
 
 use bounds::bound::Bound;
-use bounds::higher::Higher;
-use bounds::named::{Directed, Forward, Past};
 use bounds::setting::{SettingBound, prepared_answer};
+use calls::call::{BoundName, SimpleBound};
 use charges::Charge;
-use lines::call::{BoundName, SimpleBound};
+use floors::{Directed, Forward, Past};
+use higher::Higher;
 use tables::modules::Modules;
 
 /// A setting bound that one word names.

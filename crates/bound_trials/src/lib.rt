@@ -60,8 +60,9 @@ impl<C: Charge> SettingBound<C> for Nothing {
 mod tests {
     use super::Nothing;
     use charges::Count;
-    use jobs::job::{Both, Job};
+    use jobs::job::Job;
     use std::process::Abort;
+    use walks::ways::Both;
 
     // Two modules of two settings, whose first ones clash.
     fn floors(rt: &impl Abort, sheet: &mut [u16], scratch: &mut [Count]) {

@@ -1,10 +1,3 @@
-pub mod Least
 pub mod Beginnings
-pub mod Floors
-pub mod Tallies
 pub mod Answers
-pub mod Greater
-pub mod Sound
-pub mod Joining
-pub mod Leasts
 pub mod Allowing

@@ -3,8 +3,4 @@
 
 pub mod asking;
 pub mod bound;
-mod counting;
-pub mod higher;
-pub mod named;
 pub mod setting;
-mod table;

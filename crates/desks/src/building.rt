@@ -1,7 +1,7 @@
 // Opening, building and weighing at a desk: each call is the job's own.
-ghost use Rattle.walk_jobs.specs.Checks.{add_checks, charge_checks, narrow_checks, weigh_checks, what_if_checks};
-ghost use Rattle.walk_jobs.specs.Refusals.{Decides};
-ghost use Rattle.walk_jobs.specs.Searching.{is_open};
+ghost use Rattle.jobs.specs.Checks.{add_checks, charge_checks, narrow_checks, weigh_checks, what_if_checks};
+ghost use Rattle.jobs.specs.Refusals.{Decides};
+ghost use Rattle.jobs.specs.Searching.{is_open};
 ghost use Rattle.bounds.specs.Beginnings.{answerable, later_setting};
 ghost use Rattle.std.specs.Prelude.{◌≡◌, cond, ◌&&◌, length, take, None, slice_set};
 ghost use Rattle.tables.specs.Modules.{Adds, Narrows};
@@ -12,8 +12,8 @@ use crate::desk::Desk;
 use bounds::bound::Bound;
 use bounds::setting::SettingBound;
 use charges::Charge;
-use walk_jobs::job::Job;
-use walk_jobs::refusal::Refusal;
+use jobs::job::Job;
+use jobs::refusal::Refusal;
 use walks::ways::{Both, Plain, Walk};
 
 impl<C: Charge, B: Bound<C>> Desk<C, Plain<B>> {

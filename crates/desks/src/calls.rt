@@ -1,16 +1,16 @@
 // The calls of a setter who sits at a desk.
-ghost use Rattle.walk_jobs.specs.Checks.{start_checks, sit_checks, close_checks};
-ghost use Rattle.walk_jobs.specs.Refusals.{Decides, first};
-ghost use Rattle.walk_jobs.specs.Searching.{is_open, Starts, SitsOpen, ClosesOpen};
+ghost use Rattle.jobs.specs.Checks.{start_checks, sit_checks, close_checks};
+ghost use Rattle.jobs.specs.Refusals.{Decides, first};
+ghost use Rattle.jobs.specs.Searching.{is_open, Starts, SitsOpen, ClosesOpen};
 ghost use Rattle.std.specs.Prelude.{◌≡◌, true, false, length, Some, None, MatchOption, ◌≢◌};
 
 use crate::desk::Desk;
 use crate::lent::{Lent, give_back, lend};
 use bounds::setting::SettingBound;
 use charges::Charge;
-use walk_jobs::refusal::Refusal;
-use walk_jobs::sat::{Sat, Unclosed};
-use walk_jobs::ticket::Ticket;
+use jobs::refusal::Refusal;
+use jobs::sat::{Sat, Unclosed};
+use jobs::ticket::Ticket;
 use walks::outcome::Closed;
 use walks::ways::{Both, Walk};
 

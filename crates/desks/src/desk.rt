@@ -2,8 +2,8 @@
 ghost use Rattle.desks.specs.Held.{holds};
 ghost use Rattle.std.specs.Prelude.{◌≡◌, true};
 
-use walk_jobs::job::Job;
-use walk_jobs::ticket::Ticket;
+use jobs::job::Job;
+use jobs::ticket::Ticket;
 
 /// A job, and the ticket of its walk while one is open. A setter who sits at it brings tickets by their number: the
 /// job's own number for the ticket that is held here, another for the ticket of another job.

@@ -1,12 +1,12 @@
 // A ticket of any number.
-ghost use Rattle.walk_jobs.specs.Searching.{is_open};
+ghost use Rattle.jobs.specs.Searching.{is_open};
 ghost use Rattle.std.specs.Prelude.{◌≡◌, true};
 
 use charges::Count;
 use floors::Past;
 use tables::sheet::ENTRIES;
-use walk_jobs::job::Job;
-use walk_jobs::ticket::Ticket;
+use jobs::job::Job;
+use jobs::ticket::Ticket;
 use walks::ways::Plain;
 
 // The ticket of another job, which has a walk open.

@@ -3,11 +3,12 @@
 
 #[cfg(test)]
 mod tests {
-    use bounds::named::Past;
     use charges::Count;
-    use jobs::job::{Job, Plain};
+    use floors::Past;
+    use jobs::job::Job;
     use jobs::refusal::Refusal;
     use std::process::Abort;
+    use walks::ways::Plain;
 
     // A job that counts clashes.
     type Counted = Job<Count, Plain<Past>>;

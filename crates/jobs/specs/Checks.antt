@@ -4,7 +4,7 @@ use Rattle.tables.specs.declared.modules.Modules.{Modules}
 use Rattle.tables.specs.Modules.{settings_of}
 use Rattle.jobs.specs.declared.refusal.Refusal.{Refusal}
 use Rattle.jobs.specs.Refusals.{number_of}
-use Rattle.jobs.specs.declared.refusal.Refusal.TheVariants.{TooShort, Full, SettingsOutOfRange, NoModule, NotLower, NoSetting, ClashTooHigh, WrongMask}
+use Rattle.jobs.specs.declared.refusal.Refusal.TheVariants.{TooShort, SearchOpen, Full, SettingsOutOfRange, NoModule, NotLower, NoSetting, ClashTooHigh, WrongMask, NoModules, WrongTicket, NoSteps}
 
 -- a sheet has at least 12,160 entries, a row at least 20 bytes
 abbrev pub short_sheet : List ℕ → Bool
@@ -22,25 +22,28 @@ abbrev pub has_all : Modules → List ℕ → ℕ → Bool
 has_all m row zero = true
 has_all m row (suc n) = has_all m row n && has m n (slice_index row n)
 
-abbrev pub add_checks : Modules → List ℕ → ℕ → List (Refusal × Bool)
-add_checks m sheet settings =
+abbrev pub add_checks : Bool → Modules → List ℕ → ℕ → List (Refusal × Bool)
+add_checks walking m sheet settings =
     (TooShort, short_sheet sheet)
+    ∷ (SearchOpen, walking)
     ∷ (Full, nat_le 20 m.count)
     ∷ (SettingsOutOfRange, (settings == 0) || nat_lt 8 settings)
     ∷ []
 
-abbrev pub charge_checks : Modules → List ℕ → ℕ → ℕ → ℕ → ℕ → ℕ → List (Refusal × Bool)
-charge_checks m sheet i k j l clash =
+abbrev pub charge_checks : Bool → Modules → List ℕ → ℕ → ℕ → ℕ → ℕ → ℕ → List (Refusal × Bool)
+charge_checks walking m sheet i k j l clash =
     (TooShort, short_sheet sheet)
+    ∷ (SearchOpen, walking)
     ∷ (NoModule, nat_le m.count i || nat_le m.count j)
     ∷ (NotLower, nat_le j i)
     ∷ (NoSetting, not (has m i k) || not (has m j l))
     ∷ (ClashTooHigh, nat_lt 1000 clash)
     ∷ []
 
-abbrev pub narrow_checks : Modules → ℕ → ℕ → List (Refusal × Bool)
-narrow_checks m i mask =
-    (NoModule, nat_le m.count i)
+abbrev pub narrow_checks : Bool → Modules → ℕ → ℕ → List (Refusal × Bool)
+narrow_checks walking m i mask =
+    (SearchOpen, walking)
+    ∷ (NoModule, nat_le m.count i)
     ∷ (WrongMask, (mask == 0) || nat_le (2 ^ settings_of m i) mask)
     ∷ []
 
@@ -58,6 +61,20 @@ what_if_checks m sheet row i k =
     ∷ (NoSetting, not (has_all m (slice_set row i k) m.count))
     ∷ []
 
+abbrev pub start_checks : Bool → Modules → List (Refusal × Bool)
+start_checks walking m = (SearchOpen, walking) ∷ (NoModules, (m.count == 0)) ∷ []
+
+-- a scratch has at least 192 charges; `ticket` is the number on the ticket
+abbrev pub sit_checks : Bool → ℕ → List ℕ → ℕ → ℕ → ℕ → List (Refusal × Bool)
+sit_checks walking number sheet room ticket steps =
+    (TooShort, short_sheet sheet || nat_lt room 192)
+    ∷ (WrongTicket, not (ticket == number) || not walking)
+    ∷ (NoSteps, (steps == 0))
+    ∷ []
+
+abbrev pub close_checks : Bool → ℕ → List ℕ → ℕ → List (Refusal × Bool)
+close_checks walking number row ticket = (TooShort, short_row row) ∷ (WrongTicket, not (ticket == number) || not walking) ∷ []
+
 -- the refusals' numbers rise from check to check
 abbrev pub Rises : List (Refusal × Bool) → Type 0
 Rises [] = Unit {0}
@@ -66,8 +83,11 @@ Rises ((r, _) ∷ (s, fits) ∷ checks) = (number_of r < number_of s) × Rises (
 
 -- each call goes through its checks in the order of their numbers
 pub record InNumberOrder : Type 0 where
-  pub add : (m : Modules) (sheet : List ℕ) (settings : ℕ) → Rises (add_checks m sheet settings)
-  pub charge : (m : Modules) (sheet : List ℕ) (i k j l clash : ℕ) → Rises (charge_checks m sheet i k j l clash)
-  pub narrow : (m : Modules) (i mask : ℕ) → Rises (narrow_checks m i mask)
+  pub add : (walking : Bool) (m : Modules) (sheet : List ℕ) (settings : ℕ) → Rises (add_checks walking m sheet settings)
+  pub charge : (walking : Bool) (m : Modules) (sheet : List ℕ) (i k j l clash : ℕ) → Rises (charge_checks walking m sheet i k j l clash)
+  pub narrow : (walking : Bool) (m : Modules) (i mask : ℕ) → Rises (narrow_checks walking m i mask)
   pub weigh : (m : Modules) (sheet row : List ℕ) → Rises (weigh_checks m sheet row)
   pub what_if : (m : Modules) (sheet row : List ℕ) (i k : ℕ) → Rises (what_if_checks m sheet row i k)
+  pub start : (walking : Bool) (m : Modules) → Rises (start_checks walking m)
+  pub sit : (walking : Bool) (number : ℕ) (sheet : List ℕ) (room ticket steps : ℕ) → Rises (sit_checks walking number sheet room ticket steps)
+  pub close : (walking : Bool) (number : ℕ) (row : List ℕ) (ticket : ℕ) → Rises (close_checks walking number row ticket)

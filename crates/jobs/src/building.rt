@@ -3,6 +3,7 @@ ghost use Rattle.std.specs.Prelude.{◌≡◌, slice_set};
 ghost use Rattle.tables.specs.Modules.{Adds, Narrows};
 ghost use Rattle.tables.specs.Sheet.{Clears, position};
 ghost use Rattle.jobs.specs.Refusals.{Decides};
+ghost use Rattle.jobs.specs.Searching.{is_open};
 ghost use Rattle.jobs.specs.Checks.{add_checks, charge_checks, narrow_checks};
 
 use crate::job::Job;
@@ -11,18 +12,22 @@ use tables::sheet::{ENTRIES, clear, write_entry};
 
 impl<C, W> Job<C, W> {
     /// Adds a module of so many settings, all allowed, and clears its entries with each earlier module. Answers the
-    /// module's number; refuses 1, 3 and 4.
+    /// module's number; refuses 1 to 4.
     pub fn add(&mut self, sheet: &mut [u16], settings: u8) -> Result<u8, Refusal>
-        ensures decides { Decides result (add_checks self.old.modules sheet.old settings)
+        ensures decides { Decides result (add_checks (is_open self.old.current) self.old.modules sheet.old settings)
             (λ i. (i ≡ self.old.modules.count)
             × Adds self.old.modules self.new.modules settings
             × Clears sheet.old sheet.new self.old.modules.count)
             ((self.new.modules ≡ self.old.modules) × (sheet.new ≡ sheet.old)) }
         ensures same_number { self.new.number ≡ self.old.number }
         ensures same_walks { self.new.walks ≡ self.old.walks }
+        ensures same_walk { self.new.current ≡ self.old.current }
     {
         if sheet.len() < ENTRIES {
             return Err(Refusal::TooShort);
+        }
+        if self.current.is_some() {
+            return Err(Refusal::SearchOpen);
         }
         let i = self.modules.count();
         if i >= 20 {
@@ -36,7 +41,8 @@ impl<C, W> Job<C, W> {
         Ok(i as u8)
     }
 
-    /// Writes the clash of setting `k` of module `i` with setting `l` of the later module `j`. Refuses 1, 5, 6, 7 and 8.
+    /// Writes the clash of setting `k` of module `i` with setting `l` of the later module `j`. Refuses 1, 2, 5, 6, 7
+    /// and 8.
     pub fn charge(
         &self,
         sheet: &mut [u16],
@@ -46,12 +52,15 @@ impl<C, W> Job<C, W> {
         l: u8,
         clash: u16,
     ) -> Result<(), Refusal>
-        ensures { Decides result (charge_checks self.now.modules sheet.old i k j l clash)
+        ensures { Decides result (charge_checks (is_open self.now.current) self.now.modules sheet.old i k j l clash)
             (λ _. sheet.new ≡ slice_set sheet.old (position i k j l) clash)
             (sheet.new ≡ sheet.old) }
     {
         if sheet.len() < ENTRIES {
             return Err(Refusal::TooShort);
+        }
+        if self.current.is_some() {
+            return Err(Refusal::SearchOpen);
         }
         let first = i as usize;
         let second = j as usize;
@@ -71,14 +80,18 @@ impl<C, W> Job<C, W> {
         Ok(())
     }
 
-    /// Makes `mask` the mask of module `i`. Refuses 5 and 9.
+    /// Makes `mask` the mask of module `i`. Refuses 2, 5 and 9.
     pub fn narrow(&mut self, i: u8, mask: u8) -> Result<(), Refusal>
-        ensures decides { Decides result (narrow_checks self.old.modules i mask)
+        ensures decides { Decides result (narrow_checks (is_open self.old.current) self.old.modules i mask)
             (λ _. Narrows self.old.modules self.new.modules i mask)
             (self.new.modules ≡ self.old.modules) }
         ensures same_number { self.new.number ≡ self.old.number }
         ensures same_walks { self.new.walks ≡ self.old.walks }
+        ensures same_walk { self.new.current ≡ self.old.current }
     {
+        if self.current.is_some() {
+            return Err(Refusal::SearchOpen);
+        }
         let at = i as usize;
         if at >= self.modules.count() {
             return Err(Refusal::NoModule);

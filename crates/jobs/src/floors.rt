@@ -2,10 +2,10 @@
 ghost use Rattle.bounds.specs.Beginnings.{answerable, later_setting};
 ghost use Rattle.std.specs.Prelude.{◌≡◌, cond, ◌&&◌, length, take};
 
-use crate::job::{Both, Job};
-use crate::walks::Walk;
+use crate::job::Job;
 use bounds::setting::SettingBound;
 use charges::Charge;
+use walks::ways::{Both, Walk};
 
 impl<C: Charge, W: Walk<C>> Job<C, W> {
     /// The floor of the job's bound at the beginning in the first `len` bytes of `path`: at most the charge of every

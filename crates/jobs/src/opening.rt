@@ -1,23 +1,24 @@
 // Opening a job.
-ghost use Rattle.std.specs.Prelude.{◌≡◌};
+ghost use Rattle.std.specs.Prelude.{◌≡◌, None};
 
-use crate::job::{Both, Job, Plain};
+use crate::job::Job;
 use bounds::bound::Bound;
 use bounds::setting::SettingBound;
 use charges::Charge;
-use std::marker::PhantomData;
 use tables::modules::Modules;
+use walks::ways::{Both, Plain};
 
 fn fresh<C, W>(number: u32, walks: W) -> Job<C, W>
     ensures number { result.number ≡ number }
     ensures modules { result.modules.count ≡ 0 }
     ensures walks { result.walks ≡ walks }
+    ensures current { result.current ≡ None }
 {
     Job {
         number,
         modules: Modules::none(),
         walks,
-        kind: PhantomData,
+        current: None,
     }
 }
 
@@ -27,6 +28,7 @@ impl<C: Charge, B: Bound<C>> Job<C, Plain<B>> {
         ensures number { result.number ≡ number }
         ensures modules { result.modules.count ≡ 0 }
         ensures bound { result.walks.bound ≡ bound }
+        ensures current { result.current ≡ None }
     {
         fresh(number, Plain { bound })
     }
@@ -38,6 +40,7 @@ impl<C: Charge, B: SettingBound<C>> Job<C, Both<B>> {
         ensures number { result.number ≡ number }
         ensures modules { result.modules.count ≡ 0 }
         ensures bound { result.walks.bound ≡ bound }
+        ensures current { result.current ≡ None }
     {
         fresh(number, Both { bound })
     }

@@ -6,8 +6,10 @@ ghost use Rattle.jobs.specs.Refusals.{number_of};
 /// Why a call is refused. Each case has its number; a call answers the lowest that fits.
 #[derive(Clone, Copy, Debug, PartialEq, Eq)]
 pub enum Refusal {
-    /// Sheet or row too short.
+    /// Sheet, row or scratch too short.
     TooShort,
+    /// A walk is open.
+    SearchOpen,
     /// Twenty modules are there.
     Full,
     /// The number of settings is not 1 to 8.
@@ -22,6 +24,12 @@ pub enum Refusal {
     ClashTooHigh,
     /// The mask is 0, or has a bit of no setting.
     WrongMask,
+    /// No modules to walk.
+    NoModules,
+    /// The ticket is of another job number, or no walk is open.
+    WrongTicket,
+    /// Zero steps.
+    NoSteps,
 }
 
 impl Refusal {
@@ -32,6 +40,7 @@ impl Refusal {
     {
         match self {
             Refusal::TooShort => 1,
+            Refusal::SearchOpen => 2,
             Refusal::Full => 3,
             Refusal::SettingsOutOfRange => 4,
             Refusal::NoModule => 5,
@@ -39,6 +48,9 @@ impl Refusal {
             Refusal::NoSetting => 7,
             Refusal::ClashTooHigh => 8,
             Refusal::WrongMask => 9,
+            Refusal::NoModules => 10,
+            Refusal::WrongTicket => 11,
+            Refusal::NoSteps => 12,
         }
     }
 }

@@ -1,5 +1,7 @@
-// Tests of the crate `lines` by example. They stand apart, since a crate with tests is proved twice.
+// Tests of the crates `lines` and `answers` by example. They stand apart, since a crate with tests is proved twice.
 #![tactic(auto)]
 
 #[cfg(test)]
 mod tests;
+#[cfg(test)]
+mod walking;

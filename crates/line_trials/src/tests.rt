@@ -1,8 +1,10 @@
 // Lines that are calls, that are none and that are skipped; what calls are read as, and what is reported.
-use lines::answer::{Answer, Figure, report};
-use lines::call::{BoundName, Call, KindName, SimpleBound, Walks};
-use lines::line::{Line, read_call, read_line};
+use answers::answer::Answer;
+use answers::report::report;
+use calls::call::{BoundName, Call, KindName, SimpleBound, Walks};
 use std::test::Fail;
+use told::figure::Figure;
+use lines::line::{Line, read_call, read_line};
 
 const CALLS: [&str; 22] = [
     "open 7 count plain past",
@@ -29,7 +31,7 @@ const CALLS: [&str; 22] = [
     "floor-with 1 2 1 2 3 4 5 6 7 8 9 10 11 12 13 14 15 16 17 18 19 20",
 ];
 
-const NO_CALLS: [&str; 34] = [
+const NO_CALLS: [&str; 33] = [
     "open 4294967296 count plain past",
     "open 7 counts plain past",
     "open 7 count neither past",
@@ -63,7 +65,6 @@ const NO_CALLS: [&str; 34] = [
     "floor-with 1 2 256",
     "floor-with 1 2 1 2 3 4 5 6 7 8 9 10 11 12 13 14 15 16 17 18 19 20 21",
     "floor-without 1 2",
-    "close",
 ];
 
 const SKIPPED: [&str; 5] = ["", "   ", "#", "# add 5", "  #add 5"];

@@ -1,8 +1,8 @@
 -- What a line of a script is.
 use Rattle.std.specs.Prelude.{◌≡◌, List, [], ◌∷◌, slice_index}
-use Rattle.lines.specs.Words.{Word}
-use Rattle.lines.specs.Calls.{Says}
-use Rattle.lines.specs.declared.call.Call as call
+use Rattle.words.specs.Words.{Word}
+use Rattle.calls.specs.Calls.{Says}
+use Rattle.calls.specs.declared.call.Call as call
 use Rattle.lines.specs.declared.line.Line.{Line}
 use Rattle.lines.specs.declared.line.Line.TheVariants.{Skipped, NoCall, Call}
 

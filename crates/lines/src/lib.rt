@@ -1,11 +1,4 @@
-// Reads one line of a script of calls into a value, and writes an answer as text.
+// Reads one line of a script of calls.
 #![tactic(auto)]
 
-pub mod answer;
-mod arguments;
-pub mod call;
 pub mod line;
-pub mod numbers;
-mod row;
-mod values;
-pub mod words;

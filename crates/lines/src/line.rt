@@ -1,15 +1,16 @@
 // Reads a line of a script.
-ghost use Rattle.lines.specs.Calls.{Says};
-ghost use Rattle.lines.specs.Exact.{Exactly};
+ghost use Rattle.calls.specs.Calls.{Says};
 ghost use Rattle.lines.specs.Lines.{Reads};
-ghost use Rattle.lines.specs.Words.{words_of};
+ghost use Rattle.words.specs.Exact.{Exactly};
+ghost use Rattle.words.specs.Words.{words_of};
 
-use crate::arguments::{
-    read_add, read_charge, read_floor, read_floor_with, read_narrow, read_open, read_weigh,
-    read_what_if,
-};
-use crate::call::Call;
-use crate::words::next_word;
+use arguments::building::{read_add, read_charge, read_narrow};
+use arguments::floors::{read_floor, read_floor_with};
+use arguments::walking::{read_ahead, read_close, read_sit, read_start};
+use arguments::weighing::{read_weigh, read_what_if};
+use calls::call::Call;
+use calls::opening::read_open;
+use words::splitting::next_word;
 
 /// What a line of a script is: blank or a comment, which is skipped; no call; or a call.
 #[derive(Clone, Copy)]
@@ -25,8 +26,12 @@ pub enum Line {
 ///   bound is `past`, `forward`, `directed`, or `higher` and two of these. With `both`, `past` is no bound, nor a part of one.
 /// - `add SETTINGS`, `charge I K J L CLASH`, `narrow I MASK`
 /// - `weigh S0 S1 ..`, `what-if I K S0 S1 ..`, `floor S0 S1 ..` and `floor-with J K S0 S1 ..`, with at most twenty settings
+/// - `start CEILING` and `ahead CEILING`: a ceiling is a number, or two numbers for a ranked charge. Whether it is a charge of the
+///   job's kind is not told by the line.
+/// - `sit STEPS` and `close`, and after each perhaps `ticket NUMBER`
 ///
-/// A number is one digit or more, with no sign; leading zeros are allowed. NUMBER is a `u32`, CLASH a `u16`, and each other a `u8`.
+/// A number is one digit or more, with no sign; leading zeros are allowed. NUMBER and STEPS are a `u32`, and so is a ceiling of one
+/// number and the second of two; CLASH and the first of two are a `u16`, and each other is a `u8`.
 pub fn read_call(line: &str) -> Option<Call>
     ensures { Exactly (Says (words_of line.now)) result }
 {
@@ -40,6 +45,10 @@ pub fn read_call(line: &str) -> Option<Call>
         "what-if" => read_what_if(rest),
         "floor" => read_floor(rest),
         "floor-with" => read_floor_with(rest),
+        "start" => read_start(rest),
+        "ahead" => read_ahead(rest),
+        "sit" => read_sit(rest),
+        "close" => read_close(rest),
         _ => None,
     }
 }

@@ -2,7 +2,7 @@
 #![tactic(auto)]
 
 use std::io;
-use walk_reports::program::perform;
+use reports::program::perform;
 
 fn main(rt: HostRuntime) -> io::Result<()> {
     perform(&rt)

@@ -1,1 +1,3 @@
 pub mod Tellings
+pub mod Endings
+pub mod Alike

@@ -1,20 +1,20 @@
 -- What a line of a script does, and what is printed after it.
 use Rattle.std.specs.Prelude.{◌≡◌, ℕ, List, Some, None, Option, MatchOption}
 use Rattle.lines.specs.Lines.{Reads}
-use Rattle.lines.specs.Words.{words_of}
-use Rattle.lines.specs.declared.answer.Answer.{Answer}
-use Rattle.lines.specs.declared.answer.Answer.TheVariants.{NotACall}
+use Rattle.words.specs.Words.{words_of}
+use Rattle.answers.specs.declared.answer.Answer.TheVariants.{NotACall}
 use Rattle.lines.specs.declared.line.Line.{Line}
 use Rattle.lines.specs.declared.line.Line.TheVariants.{Skipped, NoCall, Call}
 use Rattle.reports.specs.declared.opened.AnyJob.{AnyJob}
+use Rattle.reports.specs.declared.printed.Told.{Told}
 use Rattle.reports.specs.Sessions.{Answers}
 
 -- what is read does nothing and gets no answer, or does nothing and is told that it is no call, or is a call
-abbrev pub Does : Option AnyJob → List ℕ → Line → Option Answer → Option AnyJob → List ℕ → Type 0
+abbrev pub Does : Option AnyJob → List ℕ → Line → Option Told → Option AnyJob → List ℕ → Type 0
 Does job sheet Skipped a job' sheet' = (a ≡ None) × (job' ≡ job) × (sheet' ≡ sheet)
-Does job sheet NoCall a job' sheet' = (a ≡ Some NotACall) × (job' ≡ job) × (sheet' ≡ sheet)
+Does job sheet NoCall a job' sheet' = (a ≡ Some (record { closed = None; answer = NotACall })) × (job' ≡ job) × (sheet' ≡ sheet)
 Does job sheet (Call c) a job' sheet' = MatchOption a ⊥ (λ x. Answers job sheet c x job' sheet')
 
 -- a line does what is read from its words
-abbrev pub Follows : Option AnyJob → List ℕ → List ℕ → Option Answer → Option AnyJob → List ℕ → Type 0
+abbrev pub Follows : Option AnyJob → List ℕ → List ℕ → Option Told → Option AnyJob → List ℕ → Type 0
 Follows job sheet line a job' sheet' = (l : Line) × Reads (words_of line) l × Does job sheet l a job' sheet'

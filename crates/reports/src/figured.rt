@@ -1,20 +1,28 @@
-// How a charge is printed.
-ghost use Rattle.std.specs.Prelude.{◌≡◌};
+// How a charge is printed, and how a ceiling is read.
+ghost use Rattle.std.specs.Prelude.{◌≡◌, Option};
 ghost use Rattle.std.proofs.Common.{ap};
 ghost use Rattle.charges.specs.Capped.{capped};
 ghost use Rattle.charges.specs.Ranked.{rank};
-ghost use Rattle.lines.specs.declared.answer.Figure.{Figure};
-ghost use Rattle.reports.specs.Figures.{number_figure, rank_figure};
+ghost use Rattle.told.specs.declared.figure.Figure.{Figure};
+ghost use Rattle.reports.specs.Figures.{number_figure, rank_figure, count_said, sum_said, worst_said, rank_said};
 
 use charges::{Charge, Count, Ranked, Sum, Worst};
-use lines::answer::Figure;
+use told::figure::Figure;
 
-/// A kind of charge that can be printed.
+/// A kind of charge that can be printed and read.
 pub trait Figured: Charge {
+    // how a charge is printed
     ghost shows: { Self → Figure };
+
+    // the charge that the numbers of a ceiling say, if they say one
+    ghost says: { Figure → Option Self };
 
     fn figure(self) -> Figure
         ensures { result ≡ shows self };
+
+    /// The charge that these numbers say; `None` where they are no charge of the kind.
+    fn of_figure(figure: Figure) -> Option<Self>
+        ensures { result ≡ says figure };
 
     // values that stand for one charge are printed alike
     ghost alike: { (x y : Self) → Self.Charge.means x ≡ Self.Charge.means y → shows x ≡ shows y };
@@ -23,25 +31,45 @@ pub trait Figured: Charge {
 impl Figured for Count {
     ghost shows = { λ s. number_figure (capped 65535 s.number) };
 
+    ghost says = { count_said };
+
     ghost alike = { λ x y e. ap number_figure e };
 
     fn figure(self) -> Figure {
         Figure::One(u32::from(self.number))
+    }
+
+    fn of_figure(figure: Figure) -> Option<Count> {
+        match figure {
+            Figure::One(n) if n <= 65535 => Some(Count { number: n as u16 }),
+            _ => None,
+        }
     }
 }
 
 impl Figured for Sum {
     ghost shows = { λ s. number_figure (capped 4294967295 s.number) };
 
+    ghost says = { sum_said };
+
     ghost alike = { λ x y e. ap number_figure e };
 
     fn figure(self) -> Figure {
         Figure::One(self.number)
     }
+
+    fn of_figure(figure: Figure) -> Option<Sum> {
+        match figure {
+            Figure::One(n) => Some(Sum { number: n }),
+            Figure::Two(_, _) => None,
+        }
+    }
 }
 
 impl Figured for Worst {
     ghost shows = { λ s. number_figure (capped 65535 s.number) };
+
+    ghost says = { worst_said };
 
     ghost alike = { λ x y e. ap number_figure e };
 
@@ -49,15 +77,31 @@ impl Figured for Worst {
         let worst = u32::from(self.number);
         Figure::One(worst)
     }
+
+    fn of_figure(figure: Figure) -> Option<Worst> {
+        match figure {
+            Figure::One(n) if n <= 65535 => Some(Worst { number: n as u16 }),
+            _ => None,
+        }
+    }
 }
 
 impl Figured for Ranked {
     ghost shows = { λ s. rank_figure (rank s.forbidden s.soft) };
+
+    ghost says = { rank_said };
 
     ghost alike = { λ x y e. ap rank_figure e };
 
     fn figure(self) -> Figure {
         let (forbidden, soft) = self.parts();
         Figure::Two(forbidden, soft)
+    }
+
+    fn of_figure(figure: Figure) -> Option<Ranked> {
+        match figure {
+            Figure::One(_) => None,
+            Figure::Two(forbidden, soft) => Some(Ranked::new(forbidden, soft)),
+        }
     }
 }

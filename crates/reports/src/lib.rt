@@ -4,7 +4,9 @@
 pub mod calling;
 pub mod figured;
 pub mod opened;
+pub mod printed;
 pub mod program;
 pub mod script;
 pub mod session;
 pub mod walked;
+pub mod walking;

@@ -2,21 +2,18 @@
 ghost use Rattle.reports.specs.Scripts.{Follows};
 
 use crate::opened::AnyJob;
+use crate::printed::Told;
 use crate::session::answer;
-use lines::answer::Answer;
+use answers::answer::Answer;
 use lines::line::{Line, read_line};
 
-/// Follows a line of a script: gives the job that is open then, and the answer. A blank line and a comment get none.
-pub fn follow(
-    job: Option<AnyJob>,
-    sheet: &mut [u16],
-    line: &str,
-) -> (Option<AnyJob>, Option<Answer>)
+/// Follows a line of a script: gives the job that is open then, and what is printed. A blank line and a comment get nothing.
+pub fn follow(job: Option<AnyJob>, sheet: &mut [u16], line: &str) -> (Option<AnyJob>, Option<Told>)
     ensures { Follows job sheet.old line.now result.1 result.0 sheet.new }
 {
     match read_line(line) {
         Line::Skipped => (job, None),
-        Line::NoCall => (job, Some(Answer::NotACall)),
+        Line::NoCall => (job, Some(Told::only(Answer::NotACall))),
         Line::Call(call) => {
             let (job, told) = answer(job, sheet, call);
             (job, Some(told))

@@ -1,29 +1,33 @@
 // The calls of a script, on the job that it has open.
-ghost use Rattle.lines.specs.Calls.{allowed};
-ghost use Rattle.reports.specs.Performs.{Performs};
-ghost use Rattle.reports.specs.Sessions.{modules_in, terms_of, OpenedFor, Fresh, GoesOn, OnJob, Answers};
+ghost use Rattle.calls.specs.Calls.{allowed};
+ghost use Rattle.jobs.specs.Searching.{is_open};
+ghost use Rattle.reports.specs.Sessions.{modules_in, walk_in, terms_of, OpenedFor, Fresh, Carries, GoesOn, Left, Ended, OnJob, Answers};
+ghost use Rattle.reports.specs.Walking.{Leaves};
 ghost use Rattle.std.specs.Prelude.{◌≡◌, true, false, length, replicate, MatchOption};
 
 use crate::figured::Figured;
 use crate::opened::{AnyJob, Opened};
+use crate::printed::Told;
 use crate::walked::{call_both, call_plain};
-use bound_names::names::{Named, setting_name};
+use crate::walking::leave;
+use answers::answer::Answer;
 use bounds::asking::SCRATCH;
+use calls::call::{BoundName, Call, KindName, Walks};
 use charges::{Charge, Count, Ranked, Sum, Worst};
-use jobs::job::Job;
-use lines::answer::Answer;
-use lines::call::{BoundName, Call, KindName, Walks};
+use desks::desk::Desk;
+use told::closing::Closing;
+use bound_names::names::{Named, setting_name};
 
 impl<C: Figured> Opened<C> {
     // A fresh job; `None` where the bound is no setting bound and both walks are asked for.
     fn open(number: u32, walks: Walks, bound: BoundName) -> Option<Opened<C>>
         ensures { MatchOption result (allowed walks bound ≡ false)
-            (λ o. (allowed walks bound ≡ true) × ((terms_of o).number ≡ number) × OpenedFor walks bound (terms_of o).opening × ((modules_in o).count ≡ 0)) }
+            (λ o. (allowed walks bound ≡ true) × ((terms_of o).number ≡ number) × OpenedFor walks bound (terms_of o).opening × ((modules_in o).count ≡ 0) × (is_open (walk_in o) ≡ false)) }
     {
         match walks {
-            Walks::Plain => Some(Opened::ForPlain(Job::open_plain(number, Named { bound }))),
+            Walks::Plain => Some(Opened::ForPlain(Desk::open_plain(number, Named { bound }))),
             Walks::Both => match setting_name(bound) {
-                Some(name) => Some(Opened::ForBoth(Job::open_both(number, name))),
+                Some(name) => Some(Opened::ForBoth(Desk::open_both(number, name))),
                 None => None,
             },
         }
@@ -31,18 +35,27 @@ impl<C: Figured> Opened<C> {
 
     // Carries out a call, whatever the walks.
     fn carry_out(self, sheet: &mut [u16], scratch: &mut [C], call: Call) -> (Opened<C>, Answer)
-        ensures performs { Performs C.Charge.kind (λ v. C.Figured.shows (C.Charge.made v)) (terms_of self).opening (length scratch.old) (modules_in self) sheet.old call result.1 (modules_in result.0) sheet.new }
-        ensures same { terms_of result.0 ≡ terms_of self }
+        ensures { Carries C.Charge.kind C.Charge.means C.Charge.made (λ v. C.Figured.shows (C.Charge.made v)) C.Figured.says (length scratch.old) self sheet.old call result.1 result.0 sheet.new }
     {
         match self {
-            Opened::ForPlain(mut job) => {
-                let answer = call_plain(&mut job, sheet, scratch, call);
-                (Opened::ForPlain(job), answer)
+            Opened::ForPlain(mut desk) => {
+                let answer = call_plain(&mut desk, sheet, scratch, call);
+                (Opened::ForPlain(desk), answer)
             }
-            Opened::ForBoth(mut job) => {
-                let answer = call_both(&mut job, sheet, scratch, call);
-                (Opened::ForBoth(job), answer)
+            Opened::ForBoth(mut desk) => {
+                let answer = call_both(&mut desk, sheet, scratch, call);
+                (Opened::ForBoth(desk), answer)
             }
+        }
+    }
+
+    // Lets the job go, whatever the walks.
+    fn let_go(self) -> Option<Closing>
+        ensures { Leaves C.Charge.kind C.Charge.means (λ v. C.Figured.shows (C.Charge.made v)) (modules_in self) (walk_in self) result }
+    {
+        match self {
+            Opened::ForPlain(desk) => leave(desk),
+            Opened::ForBoth(desk) => leave(desk),
         }
     }
 }
@@ -87,6 +100,18 @@ impl AnyJob {
             }
         }
     }
+
+    // Lets the job go, whatever the kind.
+    fn let_go(self) -> Option<Closing>
+        ensures { Left self result }
+    {
+        match self {
+            AnyJob::ByCount(job) => job.let_go(),
+            AnyJob::BySum(job) => job.let_go(),
+            AnyJob::ByWorst(job) => job.let_go(),
+            AnyJob::ByRank(job) => job.let_go(),
+        }
+    }
 }
 
 // Zeros all over the sheet.
@@ -109,9 +134,19 @@ fn on_job(job: Option<AnyJob>, sheet: &mut [u16], call: Call) -> (Option<AnyJob>
     }
 }
 
-/// Carries out a call of a script: gives what is open then, and the answer. Open puts a fresh job in the place of what is
-/// open and zeros on the sheet; where nothing is open, no other line is a call.
-pub fn answer(job: Option<AnyJob>, sheet: &mut [u16], call: Call) -> (Option<AnyJob>, Answer)
+/// Lets go what is open, and gives what is printed of its walk, where one is open.
+pub fn end(job: Option<AnyJob>) -> Option<Closing>
+    ensures { Ended job result }
+{
+    match job {
+        None => None,
+        Some(job) => job.let_go(),
+    }
+}
+
+/// Carries out a call of a script: gives what is open then, and what is printed. Open puts a fresh job in the place of what
+/// is open, whose walk is closed first, and zeros on the sheet; where nothing is open, no other line is a call.
+pub fn answer(job: Option<AnyJob>, sheet: &mut [u16], call: Call) -> (Option<AnyJob>, Told)
     ensures { Answers job sheet.old call result.1 result.0 sheet.new }
 {
     match call {
@@ -122,11 +157,16 @@ pub fn answer(job: Option<AnyJob>, sheet: &mut [u16], call: Call) -> (Option<Any
             bound,
         } => match AnyJob::open(number, kind, walks, bound) {
             Some(fresh) => {
+                let closed = end(job);
                 blank(sheet);
-                (Some(fresh), Answer::Done)
+                let answer = Answer::Done;
+                (Some(fresh), Told { closed, answer })
             }
-            None => (job, Answer::NotACall),
+            None => (job, Told::only(Answer::NotACall)),
         },
-        _ => on_job(job, sheet, call),
+        _ => {
+            let (job, answer) = on_job(job, sheet, call);
+            (job, Told::only(answer))
+        }
     }
 }

@@ -1,57 +1,67 @@
-// Calls on a job whose walks are known: those that build and weigh, and those that ask its bound.
+// Calls on a job whose walks are known: those that build and weigh, those that ask its bound, and those of walking.
 ghost use Rattle.reports.specs.Performs.{Performs, for_plain, for_both};
 ghost use Rattle.std.specs.Prelude.{◌≡◌, length};
 
 use crate::calling::build;
 use crate::figured::Figured;
-use bound_names::names::{Named, SettingName};
+use crate::walking::{close, sit, start, start_ahead};
+use answers::answer::Answer;
 use bounds::setting::SettingBound;
+use calls::call::Call;
 use charges::Charge;
-use jobs::job::{Both, Job, Plain};
-use lines::answer::Answer;
-use lines::call::Call;
+use desks::desk::Desk;
+use bound_names::names::{Named, SettingName};
+use walks::ways::{Both, Plain};
 
 /// Carries out a call on a job for plain walks.
 pub fn call_plain<C: Figured>(
-    job: &mut Job<C, Plain<Named>>,
+    desk: &mut Desk<C, Plain<Named>>,
     sheet: &mut [u16],
     scratch: &mut [C],
     call: Call,
 ) -> Answer
-    ensures performs { Performs C.Charge.kind (λ v. C.Figured.shows (C.Charge.made v)) (for_plain job.old.walks.bound.bound) (length scratch.old) job.old.modules sheet.old call result job.new.modules sheet.new }
-    ensures same_number { job.new.number ≡ job.old.number }
-    ensures same_walks { job.new.walks ≡ job.old.walks }
+    ensures performs { Performs C.Charge.kind C.Charge.means C.Charge.made (λ v. C.Figured.shows (C.Charge.made v)) C.Figured.says (record { number = desk.old.job.number; opening = for_plain desk.old.job.walks.bound.bound }) (length scratch.old) desk.old.job.modules desk.old.job.current sheet.old call result desk.new.job.modules desk.new.job.current sheet.new }
+    ensures same_number { desk.new.job.number ≡ desk.old.job.number }
+    ensures same_walks { desk.new.job.walks ≡ desk.old.job.walks }
 {
     match call {
         Call::Floor { path, len } => Answer::Charge(
-            job.floor(sheet, path, len as usize, scratch).figure(),
+            desk.floor(sheet, path, len as usize, scratch).figure(),
         ),
         Call::FloorWith { .. } => Answer::NotACall,
-        _ => build(job, sheet, call),
+        Call::Start { ceiling } => start(desk, ceiling),
+        Call::Ahead { .. } => Answer::NotACall,
+        Call::Sit { steps, ticket } => sit(desk, sheet, scratch, steps, ticket),
+        Call::Close { ticket } => close(desk, ticket),
+        _ => build(desk, sheet, call),
     }
 }
 
 /// Carries out a call on a job for both walks.
 pub fn call_both<C: Figured>(
-    job: &mut Job<C, Both<SettingName>>,
+    desk: &mut Desk<C, Both<SettingName>>,
     sheet: &mut [u16],
     scratch: &mut [C],
     call: Call,
 ) -> Answer
-    ensures performs { Performs C.Charge.kind (λ v. C.Figured.shows (C.Charge.made v)) (for_both job.old.walks.bound) (length scratch.old) job.old.modules sheet.old call result job.new.modules sheet.new }
-    ensures same_number { job.new.number ≡ job.old.number }
-    ensures same_walks { job.new.walks ≡ job.old.walks }
+    ensures performs { Performs C.Charge.kind C.Charge.means C.Charge.made (λ v. C.Figured.shows (C.Charge.made v)) C.Figured.says (record { number = desk.old.job.number; opening = for_both desk.old.job.walks.bound }) (length scratch.old) desk.old.job.modules desk.old.job.current sheet.old call result desk.new.job.modules desk.new.job.current sheet.new }
+    ensures same_number { desk.new.job.number ≡ desk.old.job.number }
+    ensures same_walks { desk.new.job.walks ≡ desk.old.job.walks }
 {
     match call {
         Call::Floor { path, len } => Answer::Charge(
-            job.floor(sheet, path, len as usize, scratch).figure(),
+            desk.floor(sheet, path, len as usize, scratch).figure(),
         ),
         Call::FloorWith { j, k, path, len } => {
             Answer::Charge(
-                job.floor_with(sheet, path, len as usize, j, k, scratch)
+                desk.floor_with(sheet, path, len as usize, j, k, scratch)
                     .figure(),
             )
         }
-        _ => build(job, sheet, call),
+        Call::Start { ceiling } => start(desk, ceiling),
+        Call::Ahead { ceiling } => start_ahead(desk, ceiling),
+        Call::Sit { steps, ticket } => sit(desk, sheet, scratch, steps, ticket),
+        Call::Close { ticket } => close(desk, ticket),
+        _ => build(desk, sheet, call),
     }
 }

@@ -18,9 +18,9 @@ use Rattle.finding.specs.Bounding.{LawfulBounding}
 use Rattle.finding.specs.Found.{Found}
 use Rattle.finding.proofs.Allowed.{setups_fit}
 use Rattle.finding.proofs.Endings.{found_at_end}
-use Rattle.walk_jobs.specs.Checks.{close_checks}
-use Rattle.walk_jobs.specs.Refusals.{first}
-use Rattle.walk_jobs.specs.Searching.{is_open, ClosesOpen}
+use Rattle.jobs.specs.Checks.{close_checks}
+use Rattle.jobs.specs.Refusals.{first}
+use Rattle.jobs.specs.Searching.{is_open, ClosesOpen}
 use Rattle.runs.specs.declared.answer.Answer.{Answer}
 use Rattle.runs.specs.declared.call.Call.TheVariants.{Add, Charge, Narrow, Start, Sit, Weigh, WhatIf, Close}
 use Rattle.runs.specs.declared.call.BothCall.{BothCall}

@@ -4,9 +4,9 @@ use borrow.Rule.Slice.PartMut.{put_mid, put_same}
 use Rattle.charges.specs.Kinds.{Kind}
 use Rattle.walks.specs.declared.outcome.Closed.{Closed}
 use Rattle.walks.specs.declared.state.Search.{Search}
-use Rattle.walk_jobs.specs.declared.refusal.Refusal.{Refusal}
-use Rattle.walk_jobs.specs.Refusals.{first, Decides}
-use Rattle.walk_jobs.specs.Searching.{ClosesOpen}
+use Rattle.jobs.specs.declared.refusal.Refusal.{Refusal}
+use Rattle.jobs.specs.Refusals.{first, Decides}
+use Rattle.jobs.specs.Searching.{ClosesOpen}
 use Rattle.runs.specs.declared.call.Row.{Row}
 use Rattle.runs.specs.Stands.{size_of, row_of, with_row}
 

@@ -8,11 +8,11 @@ use Rattle.walks.specs.declared.state.Search.{Search}
 use Rattle.walks.specs.States.{problem, by, state_of, steps_on}
 use Rattle.finding.specs.Bounding.{walk_by}
 use Rattle.finding.specs.Found.{after_steps}
-use Rattle.walk_jobs.specs.declared.refusal.Refusal.{Refusal}
-use Rattle.walk_jobs.specs.declared.sat.Sat.{Sat}
-use Rattle.walk_jobs.specs.Checks.{start_checks, add_checks, charge_checks, narrow_checks, weigh_checks, what_if_checks, sit_checks, close_checks}
-use Rattle.walk_jobs.specs.Refusals.{first}
-use Rattle.walk_jobs.specs.Searching.{is_open, Starts, Sits, SitsOpen}
+use Rattle.jobs.specs.declared.refusal.Refusal.{Refusal}
+use Rattle.jobs.specs.declared.sat.Sat.{Sat}
+use Rattle.jobs.specs.Checks.{start_checks, add_checks, charge_checks, narrow_checks, weigh_checks, what_if_checks, sit_checks, close_checks}
+use Rattle.jobs.specs.Refusals.{first}
+use Rattle.jobs.specs.Searching.{is_open, Starts, Sits, SitsOpen}
 use Rattle.runs.specs.declared.answer.Answer.{Answer}
 use Rattle.runs.specs.declared.call.Call.TheVariants.{Add, Charge, Narrow, Start, Sit, Weigh, WhatIf, Close}
 use Rattle.runs.specs.declared.call.BothCall.{BothCall}

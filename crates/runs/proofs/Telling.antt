@@ -3,10 +3,10 @@ use Rattle.std.proofs.Common.{◌≡◌, ℕ, Bool, List, Some, None, Ok, Err, R
 use Rattle.charges.specs.Kinds.{Kind}
 use Rattle.tables.specs.declared.modules.Modules.{Modules}
 use Rattle.walks.specs.declared.outcome.Closed.{Closed}
-use Rattle.walk_jobs.specs.declared.refusal.Refusal.{Refusal}
-use Rattle.walk_jobs.specs.Checks.{close_checks}
-use Rattle.walk_jobs.specs.Searching.{is_open, ClosesOpen}
-use Rattle.walk_jobs.specs.Refusals.{first, Decides}
+use Rattle.jobs.specs.declared.refusal.Refusal.{Refusal}
+use Rattle.jobs.specs.Checks.{close_checks}
+use Rattle.jobs.specs.Searching.{is_open, ClosesOpen}
+use Rattle.jobs.specs.Refusals.{first, Decides}
 use Rattle.runs.specs.declared.answer.Answer.{Answer}
 use Rattle.runs.specs.declared.answer.Answer.TheVariants as answer
 use Rattle.runs.specs.declared.call.Call.TheVariants.{Close}

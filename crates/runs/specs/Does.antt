@@ -6,11 +6,11 @@ use Rattle.tables.specs.Modules.{Adds, Narrows}
 use Rattle.tables.specs.Setups.{charge_of}
 use Rattle.tables.specs.Sheet.{Clears, position}
 use Rattle.walks.specs.declared.outcome.Closed.{Closed}
-use Rattle.walk_jobs.specs.declared.refusal.Refusal.{Refusal}
-use Rattle.walk_jobs.specs.declared.sat.Sat.{Sat}
-use Rattle.walk_jobs.specs.Checks.{add_checks, charge_checks, narrow_checks, weigh_checks, what_if_checks, start_checks, sit_checks, close_checks}
-use Rattle.walk_jobs.specs.Refusals.{first}
-use Rattle.walk_jobs.specs.Searching.{is_open, Starts, SitsOpen, ClosesOpen}
+use Rattle.jobs.specs.declared.refusal.Refusal.{Refusal}
+use Rattle.jobs.specs.declared.sat.Sat.{Sat}
+use Rattle.jobs.specs.Checks.{add_checks, charge_checks, narrow_checks, weigh_checks, what_if_checks, start_checks, sit_checks, close_checks}
+use Rattle.jobs.specs.Refusals.{first}
+use Rattle.jobs.specs.Searching.{is_open, Starts, SitsOpen, ClosesOpen}
 use Rattle.runs.specs.declared.answer.Answer.{Answer}
 use Rattle.runs.specs.declared.answer.Answer.TheVariants as answer
 use Rattle.runs.specs.declared.call.Call.{Call}

@@ -1,6 +1,6 @@
 // What a call is answered.
-use walk_jobs::refusal::Refusal;
-use walk_jobs::sat::Sat;
+use jobs::refusal::Refusal;
+use jobs::sat::Sat;
 use walks::outcome::Closed;
 
 /// What a call is answered.

@@ -1,16 +1,16 @@
 // The calls that bring a row or scratch from a setter's memory.
 ghost use Rattle.runs.specs.Stands.{row_of, with_row};
-ghost use Rattle.walk_jobs.specs.Checks.{weigh_checks, what_if_checks, sit_checks, close_checks};
-ghost use Rattle.walk_jobs.specs.Refusals.{Decides};
-ghost use Rattle.walk_jobs.specs.Searching.{is_open, SitsOpen, ClosesOpen};
+ghost use Rattle.jobs.specs.Checks.{weigh_checks, what_if_checks, sit_checks, close_checks};
+ghost use Rattle.jobs.specs.Refusals.{Decides};
+ghost use Rattle.jobs.specs.Searching.{is_open, SitsOpen, ClosesOpen};
 ghost use Rattle.tables.specs.Setups.{charge_of};
 ghost use Rattle.std.specs.Prelude.{◌≡◌, ℕ, min, List, length, slice_set};
 
 use crate::call::Row;
 use charges::Charge;
 use desks::desk::Desk;
-use walk_jobs::refusal::Refusal;
-use walk_jobs::sat::Sat;
+use jobs::refusal::Refusal;
+use jobs::sat::Sat;
 use walks::outcome::Closed;
 use walks::ways::Walk;
 

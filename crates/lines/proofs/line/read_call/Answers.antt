@@ -1,7 +1,7 @@
 use Rattle.std.proofs.Common.{◌∷◌, sym, ap, ◌∙◌, subst}
-use Rattle.lines.specs.Calls.{Says}
-use Rattle.lines.specs.Exact.{Exactly}
-use Rattle.lines.specs.Words.{words_of}
+use Rattle.calls.specs.Calls.{Says}
+use Rattle.words.specs.Exact.{Exactly}
+use Rattle.words.specs.Words.{words_of}
 use Rattle.lines.proofs.line.read_call.Goals as goal
 
 pub returns-in-text-2 : goal.returns-in-text-2

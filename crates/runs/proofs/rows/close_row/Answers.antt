@@ -1,6 +1,6 @@
 use Rattle.std.proofs.Common.{ℕ, List}
-use Rattle.walk_jobs.specs.Checks.{close_checks}
-use Rattle.walk_jobs.specs.Searching.{is_open}
+use Rattle.jobs.specs.Checks.{close_checks}
+use Rattle.jobs.specs.Searching.{is_open}
 use Rattle.runs.proofs.Memory.{put_closed}
 use Rattle.runs.proofs.rows.close_row.Goals as goal
 

@@ -1,7 +1,7 @@
 use Rattle.std.proofs.Common.{◌≡◌, ◌-◌, ◌≤◌, min, length, take, ap, ◌∙◌, arith}
 use Rattle.std.proofs.lemmas.List.{length-take-le}
-use Rattle.walk_jobs.specs.Checks.{sit_checks}
-use Rattle.walk_jobs.specs.Searching.{is_open}
+use Rattle.jobs.specs.Checks.{sit_checks}
+use Rattle.jobs.specs.Searching.{is_open}
 use Rattle.runs.proofs.Telling.{decides_less}
 use Rattle.runs.proofs.rows.sit_within.Goals as goal
 

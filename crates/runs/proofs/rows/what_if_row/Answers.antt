@@ -1,6 +1,6 @@
 use Rattle.std.proofs.Common.{◌≡◌, set, subst}
-use Rattle.walk_jobs.specs.Checks.{what_if_checks}
-use Rattle.walk_jobs.specs.Refusals.{Decides}
+use Rattle.jobs.specs.Checks.{what_if_checks}
+use Rattle.jobs.specs.Refusals.{Decides}
 use Rattle.tables.specs.Setups.{charge_of}
 use Rattle.runs.proofs.Memory.{bytes_are, row_kept}
 use Rattle.runs.proofs.rows.what_if_row.Goals as goal

@@ -1,5 +1,5 @@
 use Rattle.std.proofs.Common.{take, sym, ap, ◌∙◌}
-use Rattle.bounds.specs.Greater.{greater}
+use Rattle.higher.specs.Greater.{greater}
 use Rattle.bound_names.specs.declared.names.SettingName.{SettingName}
 use Rattle.bound_names.specs.Bounds.{simple_of, bound_of, simple_floor, named_floor, simple_with, named_with}
 use Rattle.bound_names.proofs.names.SettingNameSettingBound.prepare.Goals as goal

@@ -1,0 +1,141 @@
+// The calls of walking, carried out on a job.
+ghost use Rattle.std.specs.Prelude.{◌≡◌, ◌≤◌, true, false, length, MatchResult};
+ghost use Rattle.jobs.specs.Refusals.{number_of};
+ghost use Rattle.walks.specs.Outcomes.{fixed};
+ghost use Rattle.answers.specs.declared.answer.Answer.TheVariants as answer;
+ghost use Rattle.reports.specs.Walking.{brought, setup_told, StartsTold, SitsTold, ClosesTold, Leaves};
+
+use crate::figured::Figured;
+use answers::answer::Answer;
+use bounds::setting::SettingBound;
+use charges::Charge;
+use desks::desk::Desk;
+use told::closing::{Closing, Setup};
+use told::figure::Figure;
+use jobs::refusal::Refusal;
+use walks::outcome::Closed;
+use walks::ways::{Both, Walk};
+
+// The answer to a start.
+fn ticket_or_refused(given: Result<u32, Refusal>) -> Answer
+    ensures { MatchResult given (λ t. result ≡ answer.Ticket t) (λ e. result ≡ answer.Refused (number_of e)) }
+{
+    match given {
+        Ok(number) => Answer::Ticket(number),
+        Err(refusal) => Answer::Refused(refusal.number()),
+    }
+}
+
+/// Begins a plain walk. Where the figure is no charge of the kind, it is no call.
+pub fn start<C: Figured, W: Walk<C>>(desk: &mut Desk<C, W>, ceiling: Figure) -> Answer
+    ensures starts { StartsTold C.Charge.kind C.Charge.means C.Figured.says false desk.old.job.number desk.old.job.modules desk.old.job.current ceiling result desk.new.job.current }
+    ensures same_modules { desk.new.job.modules ≡ desk.old.job.modules }
+    ensures same_number { desk.new.job.number ≡ desk.old.job.number }
+    ensures same_walks { desk.new.job.walks ≡ desk.old.job.walks }
+{
+    match C::of_figure(ceiling) {
+        None => Answer::NotACall,
+        Some(charge) => ticket_or_refused(desk.start(charge)),
+    }
+}
+
+/// Begins a walk that looks ahead. Where the figure is no charge of the kind, it is no call.
+pub fn start_ahead<C: Figured, B: SettingBound<C>>(
+    desk: &mut Desk<C, Both<B>>,
+    ceiling: Figure,
+) -> Answer
+    ensures starts { StartsTold C.Charge.kind C.Charge.means C.Figured.says true desk.old.job.number desk.old.job.modules desk.old.job.current ceiling result desk.new.job.current }
+    ensures same_modules { desk.new.job.modules ≡ desk.old.job.modules }
+    ensures same_number { desk.new.job.number ≡ desk.old.job.number }
+    ensures same_walks { desk.new.job.walks ≡ desk.old.job.walks }
+{
+    match C::of_figure(ceiling) {
+        None => Answer::NotACall,
+        Some(charge) => ticket_or_refused(desk.start_ahead(charge)),
+    }
+}
+
+// The number of the ticket that is brought: the one that is written, or else the job's own.
+fn bring(own: u32, ticket: Option<u32>) -> u32
+    ensures { result ≡ brought own ticket }
+{
+    match ticket {
+        Some(written) => written,
+        None => own,
+    }
+}
+
+/// Sits so many steps with the ticket that is brought.
+pub fn sit<C: Figured, W: Walk<C>>(
+    desk: &mut Desk<C, W>,
+    sheet: &[u16],
+    scratch: &mut [C],
+    steps: u32,
+    ticket: Option<u32>,
+) -> Answer
+    ensures sits { SitsTold C.Charge.kind C.Charge.means (W.Walk.floor desk.old.job.walks) (W.Walk.answer desk.old.job.walks) desk.old.job.number (length scratch.old) sheet.now desk.old.job.current steps ticket result desk.new.job.current }
+    ensures same_modules { desk.new.job.modules ≡ desk.old.job.modules }
+    ensures same_number { desk.new.job.number ≡ desk.old.job.number }
+    ensures same_walks { desk.new.job.walks ≡ desk.old.job.walks }
+{
+    let number = bring(desk.number(), ticket);
+    match desk.sit(sheet, number, steps, scratch) {
+        Ok(sat) => Answer::Sat {
+            made: sat.made,
+            finished: sat.finished,
+        },
+        Err(refusal) => Answer::Refused(refusal.number()),
+    }
+}
+
+// What is printed of a walk that ended: of the row, the settings of so many modules.
+fn closing<C: Figured>(closed: Closed<C>, row: [u8; 20], modules: usize) -> Closing
+    requires { modules ≤ 20 }
+    ensures outcome { result.outcome ≡ (fixed closed.outcome).number }
+    ensures charge { result.charge ≡ C.Figured.shows closed.charge }
+    ensures steps { result.steps ≡ closed.steps }
+    ensures setup { result.setup ≡ setup_told (fixed closed.outcome).with_setup row modules }
+{
+    let setup = if closed.outcome.has_setup() {
+        Some(Setup {
+            settings: row,
+            len: modules as u8,
+        })
+    } else {
+        None
+    };
+    Closing {
+        outcome: closed.outcome.number(),
+        charge: closed.charge.figure(),
+        steps: closed.steps,
+        setup,
+    }
+}
+
+/// Closes with the ticket that is brought.
+pub fn close<C: Figured, W: Walk<C>>(desk: &mut Desk<C, W>, ticket: Option<u32>) -> Answer
+    ensures closes { ClosesTold C.Charge.kind C.Charge.means (λ v. C.Figured.shows (C.Charge.made v)) desk.old.job.number desk.old.job.modules desk.old.job.current ticket result desk.new.job.current }
+    ensures same_modules { desk.new.job.modules ≡ desk.old.job.modules }
+    ensures same_number { desk.new.job.number ≡ desk.old.job.number }
+    ensures same_walks { desk.new.job.walks ≡ desk.old.job.walks }
+{
+    let number = bring(desk.number(), ticket);
+    let modules = desk.count();
+    let mut row = [0u8; 20];
+    match desk.close(number, &mut row) {
+        Ok(closed) => Answer::Closed(closing(closed, row, modules)),
+        Err(refusal) => Answer::Refused(refusal.number()),
+    }
+}
+
+/// Lets the job go, and gives what is printed of its walk, where one is open.
+pub fn leave<C: Figured, W: Walk<C>>(desk: Desk<C, W>) -> Option<Closing>
+    ensures { Leaves C.Charge.kind C.Charge.means (λ v. C.Figured.shows (C.Charge.made v)) desk.job.modules desk.job.current result }
+{
+    let modules = desk.count();
+    let mut row = [0u8; 20];
+    match desk.leave(&mut row) {
+        Some(closed) => Some(closing(closed, row, modules)),
+        None => None,
+    }
+}

@@ -1,4 +1,0 @@
-// The bounds that a script names.
-#![tactic(auto)]
-
-pub mod names;

@@ -1,3 +1,0 @@
-pub mod Refusals
-pub mod Checks
-pub mod Searching

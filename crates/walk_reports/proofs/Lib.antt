@@ -1,3 +1,0 @@
-pub mod Tellings
-pub mod Endings
-pub mod Alike
