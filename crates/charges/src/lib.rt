@@ -17,6 +17,7 @@ pub use sum::Sum;
 pub use worst::Worst;
 
 impl Entry {
+    // Stays: no From<u16>, since a number above 1,000 is not kept.
     /// The entry that a number on the sheet is read as: one above 1,000 is read as 1,000.
     pub fn read(number: u16) -> Entry
         ensures { result.number ≡ min number 1000 }
@@ -49,9 +50,11 @@ pub trait Charge: Copy {
     fn joined(self, other: Self) -> Self
         ensures { means result ≡ kind.join (means self) (means other) };
 
+    // Stays: no PartialOrd, since several values may stand for one charge and `<=` would tell them apart.
     fn is_at_most(self, other: Self) -> bool
         ensures { result ≡ kind.at_most (means self) (means other) };
 
+    // Stays: no From<Entry>, whose contract could not name the kind.
     fn of_entry(entry: Entry) -> Self
         ensures { means result ≡ kind.entry entry.number };
 

@@ -7,7 +7,7 @@ ghost use Rattle.charges.specs.RankedLaws.{same_rank, soft_stays, ranked_lawful}
 use crate::{Charge, Entry};
 
 // The parts of the top.
-const TOP: (u16, u32) = (65535, 4294967295);
+const TOP: (u16, u32) = (u16::MAX, u32::MAX);
 
 /// The number of forbidden pairs, and then the sum of the other clashes. A charge of 65,535 forbidden pairs is the top,
 /// whatever the sum is, and the sum stops at 4,294,967,295.
@@ -67,9 +67,7 @@ impl Charge for Ranked {
     }
 
     fn is_at_most(self, other: Ranked) -> bool {
-        let (forbidden, soft) = self.parts();
-        let (most_forbidden, most_soft) = other.parts();
-        forbidden < most_forbidden || (forbidden == most_forbidden && soft <= most_soft)
+        self.parts() <= other.parts()
     }
 
     fn of_entry(entry: Entry) -> Ranked {

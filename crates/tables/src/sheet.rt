@@ -7,28 +7,42 @@ use charges::Entry;
 /// How many entries a sheet has at least: 64 for each pair of twenty modules.
 pub const ENTRIES: usize = 12160;
 
-fn position(i: usize, k: u8, j: usize, l: u8) -> usize
-    requires { (i < j) × ((j < 20) × ((k < 8) × (l < 8))) }
-    ensures value { result ≡ position i k j l }
-    ensures bound { result < 12160 }
-{
-    (j * (j - 1) / 2 + i) * 64 + k as usize * 8 + l as usize
+/// The place of an entry: setting `k` of module `i`, and setting `l` of the later module `j`.
+#[derive(Clone, Copy)]
+pub struct Place {
+    pub i: usize,
+    pub k: u8,
+    pub j: usize,
+    pub l: u8,
+    ghost ordered: { i < j },
+    ghost few: { j < 20 },
+    ghost first: { k < 8 },
+    ghost second: { l < 8 },
 }
 
-/// The entry of setting `k` of module `i` and setting `l` of the later module `j`.
-pub fn entry(sheet: &[u16], i: usize, k: u8, j: usize, l: u8) -> Entry
-    requires { (Whole sheet.now) × ((i < j) × ((j < 20) × ((k < 8) × (l < 8)))) }
-    ensures { result.number ≡ entry_at sheet.now i k j l }
-{
-    Entry::read(sheet[position(i, k, j, l)])
+impl Place {
+    fn position(self) -> usize
+        ensures value { result ≡ position self.i self.k self.j self.l }
+        ensures bound { result < 12160 }
+    {
+        (self.j * (self.j - 1) / 2 + self.i) * 64 + self.k as usize * 8 + self.l as usize
+    }
 }
 
-/// Writes that entry.
-pub fn write_entry(sheet: &mut [u16], i: usize, k: u8, j: usize, l: u8, clash: u16)
-    requires { (Whole sheet.old) × ((i < j) × ((j < 20) × ((k < 8) × (l < 8)))) }
-    ensures { sheet.new ≡ slice_set sheet.old (position i k j l) clash }
+/// The entry at a place.
+pub fn entry(sheet: &[u16], place: Place) -> Entry
+    requires { Whole sheet.now }
+    ensures { result.number ≡ entry_at sheet.now place.i place.k place.j place.l }
 {
-    sheet[position(i, k, j, l)] = clash;
+    Entry::read(sheet[place.position()])
+}
+
+/// Writes the entry at a place.
+pub fn write_entry(sheet: &mut [u16], place: Place, clash: u16)
+    requires { Whole sheet.old }
+    ensures { sheet.new ≡ slice_set sheet.old (position place.i place.k place.j place.l) clash }
+{
+    sheet[place.position()] = clash;
 }
 
 /// Sets the 64 entries of module `j` with each module before it to 0.
@@ -40,7 +54,5 @@ pub fn clear(sheet: &mut [u16], j: usize)
         return;
     }
     let from = j * (j - 1) / 2 * 64;
-    for p in from..from + 64 * j {
-        sheet[p] = 0;
-    }
+    sheet[from..from + 64 * j].fill(0);
 }

@@ -2,7 +2,7 @@
 ghost use Rattle.std.specs.Prelude.{◌≡◌, ◌<◌, ◌≤◌};
 ghost use Rattle.tables.specs.Setups.{Holds, forward_count, charge_of};
 
-use crate::sheet::entry;
+use crate::sheet::{Place, entry};
 use charges::Charge;
 
 /// What setting `k` of module `j` is charged with the settings that `row` has for the first `d` modules.
@@ -13,7 +13,13 @@ pub fn forward<C: Charge>(sheet: &[u16], row: &[u8], d: usize, j: usize, k: u8) 
 {
     let mut sum = C::zero();
     for i in 0..d {
-        sum = sum.joined(C::of_entry(entry(sheet, i, row[i], j, k)));
+        let place = Place {
+            i,
+            k: row[i],
+            j,
+            l: k,
+        };
+        sum = sum.joined(C::of_entry(entry(sheet, place)));
     }
     sum
 }
