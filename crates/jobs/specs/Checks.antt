@@ -22,28 +22,30 @@ abbrev pub has_all : Modules → List ℕ → ℕ → Bool
 has_all m row zero = true
 has_all m row (suc n) = has_all m row n && has m n (slice_index row n)
 
-abbrev pub add_checks : Bool → Modules → List ℕ → ℕ → List (Refusal × Bool)
-add_checks walking m sheet settings =
+-- while a walk is open refusal 2 stands among the others, right after refusal 1
+abbrev pub unless_walking : Bool → List (Refusal × Bool) → List (Refusal × Bool)
+unless_walking walking ((TooShort, fits) ∷ checks) = (TooShort, fits) ∷ (SearchOpen, walking) ∷ checks
+unless_walking walking checks = (SearchOpen, walking) ∷ checks
+
+abbrev pub add_checks : Modules → List ℕ → ℕ → List (Refusal × Bool)
+add_checks m sheet settings =
     (TooShort, short_sheet sheet)
-    ∷ (SearchOpen, walking)
     ∷ (Full, nat_le 20 m.count)
     ∷ (SettingsOutOfRange, (settings == 0) || nat_lt 8 settings)
     ∷ []
 
-abbrev pub charge_checks : Bool → Modules → List ℕ → ℕ → ℕ → ℕ → ℕ → ℕ → List (Refusal × Bool)
-charge_checks walking m sheet i k j l clash =
+abbrev pub charge_checks : Modules → List ℕ → ℕ → ℕ → ℕ → ℕ → ℕ → List (Refusal × Bool)
+charge_checks m sheet i k j l clash =
     (TooShort, short_sheet sheet)
-    ∷ (SearchOpen, walking)
     ∷ (NoModule, nat_le m.count i || nat_le m.count j)
     ∷ (NotLower, nat_le j i)
     ∷ (NoSetting, not (has m i k) || not (has m j l))
     ∷ (ClashTooHigh, nat_lt 1000 clash)
     ∷ []
 
-abbrev pub narrow_checks : Bool → Modules → ℕ → ℕ → List (Refusal × Bool)
-narrow_checks walking m i mask =
-    (SearchOpen, walking)
-    ∷ (NoModule, nat_le m.count i)
+abbrev pub narrow_checks : Modules → ℕ → ℕ → List (Refusal × Bool)
+narrow_checks m i mask =
+    (NoModule, nat_le m.count i)
     ∷ (WrongMask, (mask == 0) || nat_le (2 ^ settings_of m i) mask)
     ∷ []
 
@@ -83,9 +85,9 @@ Rises ((r, _) ∷ (s, fits) ∷ checks) = (number_of r < number_of s) × Rises (
 
 -- each call goes through its checks in the order of their numbers
 pub record InNumberOrder : Type 0 where
-  pub add : (walking : Bool) (m : Modules) (sheet : List ℕ) (settings : ℕ) → Rises (add_checks walking m sheet settings)
-  pub charge : (walking : Bool) (m : Modules) (sheet : List ℕ) (i k j l clash : ℕ) → Rises (charge_checks walking m sheet i k j l clash)
-  pub narrow : (walking : Bool) (m : Modules) (i mask : ℕ) → Rises (narrow_checks walking m i mask)
+  pub add : (walking : Bool) (m : Modules) (sheet : List ℕ) (settings : ℕ) → Rises (unless_walking walking (add_checks m sheet settings))
+  pub charge : (walking : Bool) (m : Modules) (sheet : List ℕ) (i k j l clash : ℕ) → Rises (unless_walking walking (charge_checks m sheet i k j l clash))
+  pub narrow : (walking : Bool) (m : Modules) (i mask : ℕ) → Rises (unless_walking walking (narrow_checks m i mask))
   pub weigh : (m : Modules) (sheet row : List ℕ) → Rises (weigh_checks m sheet row)
   pub what_if : (m : Modules) (sheet row : List ℕ) (i k : ℕ) → Rises (what_if_checks m sheet row i k)
   pub start : (walking : Bool) (m : Modules) → Rises (start_checks walking m)

@@ -4,17 +4,17 @@ ghost use Rattle.tables.specs.Modules.{Adds, Narrows};
 ghost use Rattle.tables.specs.Sheet.{Clears, position};
 ghost use Rattle.jobs.specs.Refusals.{Decides};
 ghost use Rattle.jobs.specs.Searching.{is_open};
-ghost use Rattle.jobs.specs.Checks.{add_checks, charge_checks, narrow_checks};
+ghost use Rattle.jobs.specs.Checks.{unless_walking, add_checks, charge_checks, narrow_checks};
 
 use crate::job::Job;
 use crate::refusal::Refusal;
-use tables::sheet::{ENTRIES, clear, write_entry};
+use tables::sheet::{ENTRIES, Place, clear, write_entry};
 
 impl<C, W> Job<C, W> {
     /// Adds a module of so many settings, all allowed, and clears its entries with each earlier module. Answers the
     /// module's number; refuses 1 to 4.
     pub fn add(&mut self, sheet: &mut [u16], settings: u8) -> Result<u8, Refusal>
-        ensures decides { Decides result (add_checks (is_open self.old.current) self.old.modules sheet.old settings)
+        ensures decides { Decides result (unless_walking (is_open self.old.current) (add_checks self.old.modules sheet.old settings))
             (λ i. (i ≡ self.old.modules.count)
             × Adds self.old.modules self.new.modules settings
             × Clears sheet.old sheet.new self.old.modules.count)
@@ -33,7 +33,7 @@ impl<C, W> Job<C, W> {
         if i >= 20 {
             return Err(Refusal::Full);
         }
-        if settings == 0 || settings > 8 {
+        if !(1..=8).contains(&settings) {
             return Err(Refusal::SettingsOutOfRange);
         }
         clear(sheet, i);
@@ -52,7 +52,7 @@ impl<C, W> Job<C, W> {
         l: u8,
         clash: u16,
     ) -> Result<(), Refusal>
-        ensures { Decides result (charge_checks (is_open self.now.current) self.now.modules sheet.old i k j l clash)
+        ensures { Decides result (unless_walking (is_open self.now.current) (charge_checks self.now.modules sheet.old i k j l clash))
             (λ _. sheet.new ≡ slice_set sheet.old (position i k j l) clash)
             (sheet.new ≡ sheet.old) }
     {
@@ -76,13 +76,19 @@ impl<C, W> Job<C, W> {
         if clash > 1000 {
             return Err(Refusal::ClashTooHigh);
         }
-        write_entry(sheet, first, k, second, l, clash);
+        let place = Place {
+            i: first,
+            k,
+            j: second,
+            l,
+        };
+        write_entry(sheet, place, clash);
         Ok(())
     }
 
     /// Makes `mask` the mask of module `i`. Refuses 2, 5 and 9.
     pub fn narrow(&mut self, i: u8, mask: u8) -> Result<(), Refusal>
-        ensures decides { Decides result (narrow_checks (is_open self.old.current) self.old.modules i mask)
+        ensures decides { Decides result (unless_walking (is_open self.old.current) (narrow_checks self.old.modules i mask))
             (λ _. Narrows self.old.modules self.new.modules i mask)
             (self.new.modules ≡ self.old.modules) }
         ensures same_number { self.new.number ≡ self.old.number }

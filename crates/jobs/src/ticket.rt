@@ -1,6 +1,9 @@
 // The ticket of an open walk.
 ghost use Rattle.std.specs.Prelude.{◌≡◌};
 
+use crate::refusal::Refusal;
+use crate::sat::Unclosed;
+
 /// The ticket that a start gives, with the job's number. It stands for the open walk, and has to be handed back
 /// through a close: a program that lets one go does not compile.
 pub struct Ticket {
@@ -13,5 +16,16 @@ impl Ticket {
         ensures { result ≡ self.now.number }
     {
         self.number
+    }
+
+    // The ticket, given back by a refused close.
+    pub(crate) fn back(self, refusal: Refusal) -> Unclosed
+        ensures refusal { result.refusal ≡ refusal }
+        ensures ticket { result.ticket ≡ self }
+    {
+        Unclosed {
+            refusal,
+            ticket: self,
+        }
     }
 }

@@ -75,19 +75,15 @@ impl<C: Charge, W: Walk<C>> Job<C, W> {
         if ticket.number != self.number {
             return Err(Refusal::WrongTicket);
         }
-        match self.current.take() {
-            None => Err(Refusal::WrongTicket),
-            Some(mut walk) => {
-                if steps == 0 {
-                    self.current = Some(walk);
-                    return Err(Refusal::NoSteps);
-                }
-                let made = walk.sit(&self.walks, sheet, steps, scratch);
-                let finished = walk.is_finished();
-                self.current = Some(walk);
-                Ok(Sat { made, finished })
-            }
+        let Some(walk) = &mut self.current else {
+            return Err(Refusal::WrongTicket);
+        };
+        if steps == 0 {
+            return Err(Refusal::NoSteps);
         }
+        let made = walk.sit(&self.walks, sheet, steps, scratch);
+        let finished = walk.is_finished();
+        Ok(Sat { made, finished })
     }
 
     /// Ends the open walk: takes its ticket, writes the best setup into the row's first bytes, one for each module, and
@@ -103,27 +99,16 @@ impl<C: Charge, W: Walk<C>> Job<C, W> {
         ensures same_walks { self.new.walks ≡ self.old.walks }
     {
         if row.len() < ROW {
-            return Err(Unclosed {
-                refusal: Refusal::TooShort,
-                ticket,
-            });
+            return Err(ticket.back(Refusal::TooShort));
         }
         if ticket.number != self.number {
-            return Err(Unclosed {
-                refusal: Refusal::WrongTicket,
-                ticket,
-            });
+            return Err(ticket.back(Refusal::WrongTicket));
         }
-        match self.current.take() {
-            None => Err(Unclosed {
-                refusal: Refusal::WrongTicket,
-                ticket,
-            }),
-            Some(walk) => {
-                let Ticket { number: _ } = ticket;
-                Ok(walk.close(row))
-            }
-        }
+        let Some(walk) = self.current.take() else {
+            return Err(ticket.back(Refusal::WrongTicket));
+        };
+        let Ticket { number: _ } = ticket;
+        Ok(walk.close(row))
     }
 }
 

@@ -19,12 +19,7 @@ fn has_all(modules: &Modules, row: &[u8]) -> bool
     requires { 20 ≤ length row.now }
     ensures { result ≡ has_all modules.now row.now modules.now.count }
 {
-    for i in 0..modules.count() {
-        if row[i] >= modules.settings(i) {
-            return false;
-        }
-    }
-    true
+    (0..modules.count()).all(|i| row[i] < modules.settings(i))
 }
 
 impl<C: Charge, W> Job<C, W> {

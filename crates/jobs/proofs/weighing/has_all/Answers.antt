@@ -1,20 +1,15 @@
-use Rattle.std.proofs.Common.{get_or, sym, ◌∙◌, arith}
-use Rattle.std.proofs.lemmas.Bool.{le-ltb, lt-ltb, and_from}
+use Rattle.std.proofs.Common.{◌<◌, ◌≤◌, get_or, arith, rules}
+use Rattle.std.proofs.lemmas.Iterator.{cases_from_all, YieldsList-from_range}
+use borrow.Author.Tests.{tests}
 use Rattle.tables.specs.Modules.{settings_of}
-use Rattle.jobs.specs.Checks.{has, has_all}
-use Rattle.jobs.proofs.Rows.{has_all_fails, has_all_more}
+use Rattle.jobs.proofs.Rows.{has_all_tested}
 use Rattle.jobs.proofs.weighing.has_all.Goals as goal
 
-pub returns-then-row-i : goal.returns-then-row-i
-returns-then-row-i c =
+pub returns : goal.returns
+returns c =
     let m = c.args.modules.now in
     let row = c.args.row.now in
-    let i = c.loop-i.i in
-    sym (has_all_fails m row m.count i (omega arith) (le-ltb (get_or row i 0) (settings_of m i) (omega arith)))
-
-pub loop-i-preserved : goal.loop-i-preserved
-loop-i-preserved c =
-    let m = c.args.modules.now in
-    let row = c.args.row.now in
-    let i = c.loop-i.i in
-    has_all_more m row i ∙ and_from (has_all m row i) (has m i (get_or row i 0)) c.loop-i.invariant (lt-ltb (get_or row i 0) (settings_of m i) (omega arith))
+    has_all_tested m row m.count c.all.result
+    (cases_from_all _ _ _ (λ i. get_or row i 0 < settings_of m i) (λ i. settings_of m i ≤ get_or row i 0) c.all.ensures.ran
+    (YieldsList-from_range 0 m.count m.count (search rules) (omega arith))
+    (λ x q k. search (rules, tests)) (λ x q k. search (rules, tests)))
