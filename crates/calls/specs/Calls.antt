@@ -14,6 +14,8 @@ use Rattle.calls.specs.declared.call.BoundName.{BoundName}
 use Rattle.calls.specs.declared.call.BoundName.TheVariants.{One, Higher}
 use Rattle.calls.specs.declared.call.Call.{Call}
 use Rattle.calls.specs.declared.call.Call.TheVariants.{Open, Add, Charge, Narrow, Weigh, WhatIf, Floor, FloorWith, Start, Ahead, Sit, Close}
+use Rattle.calls.specs.declared.call.Vocabulary.{Vocabulary}
+use Rattle.calls.specs.declared.call.Vocabulary.TheVariants.{Building, Walking}
 
 -- the words for each bound
 abbrev pub bound_words : BoundName → List Word
@@ -60,6 +62,22 @@ name (Start x) = codes "start"
 name (Ahead x) = codes "ahead"
 name (Sit n t) = codes "sit"
 name (Close t) = codes "close"
+
+-- whether the vocabulary has the call: the calls of walking are in the walking vocabulary alone
+abbrev pub has : Vocabulary → Call → Bool
+has Walking c = true
+has Building (Open n k w b) = true
+has Building (Add s) = true
+has Building (Charge i k j l e) = true
+has Building (Narrow i m) = true
+has Building (Weigh row) = true
+has Building (WhatIf i k row) = true
+has Building (Floor path len) = true
+has Building (FloorWith j k path len) = true
+has Building (Start x) = false
+has Building (Ahead x) = false
+has Building (Sit n t) = false
+has Building (Close t) = false
 
 -- the words after the first say the arguments of the call
 abbrev pub Args : List Word → Call → Type 0

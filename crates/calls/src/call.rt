@@ -1,4 +1,7 @@
 // The calls that a line of a script can say.
+ghost use Rattle.calls.specs.Calls.{has};
+ghost use Rattle.std.specs.Prelude.{◌≡◌};
+
 use told::figure::Figure;
 
 /// The kind of charge that a setup is opened with.
@@ -88,4 +91,26 @@ pub enum Call {
     Close {
         ticket: Option<u32>,
     },
+}
+
+/// Which calls a script can say: those that build and weigh, or these and those of walking.
+#[derive(Clone, Copy)]
+pub enum Vocabulary {
+    Building,
+    Walking,
+}
+
+impl Vocabulary {
+    /// Whether the vocabulary has a call: start, ahead, sit and close are calls of the walking vocabulary alone.
+    pub fn has(self, call: Call) -> bool
+        ensures { result ≡ has self call }
+    {
+        match self {
+            Vocabulary::Building => !matches!(
+                call,
+                Call::Start { .. } | Call::Ahead { .. } | Call::Sit { .. } | Call::Close { .. }
+            ),
+            Vocabulary::Walking => true,
+        }
+    }
 }

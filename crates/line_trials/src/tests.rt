@@ -1,10 +1,10 @@
 // Lines that are calls, that are none and that are skipped; what calls are read as, and what is reported.
 use answers::answer::Answer;
 use answers::report::report;
-use calls::call::{BoundName, Call, KindName, SimpleBound, Walks};
+use calls::call::{BoundName, Call, KindName, SimpleBound, Vocabulary, Walks};
+use lines::line::{Line, read_call, read_line};
 use std::test::Fail;
 use told::figure::Figure;
-use lines::line::{Line, read_call, read_line};
 
 const CALLS: [&str; 22] = [
     "open 7 count plain past",
@@ -31,7 +31,7 @@ const CALLS: [&str; 22] = [
     "floor-with 1 2 1 2 3 4 5 6 7 8 9 10 11 12 13 14 15 16 17 18 19 20",
 ];
 
-const NO_CALLS: [&str; 33] = [
+const NO_CALLS: [&str; 34] = [
     "open 4294967296 count plain past",
     "open 7 counts plain past",
     "open 7 count neither past",
@@ -65,6 +65,7 @@ const NO_CALLS: [&str; 33] = [
     "floor-with 1 2 256",
     "floor-with 1 2 1 2 3 4 5 6 7 8 9 10 11 12 13 14 15 16 17 18 19 20 21",
     "floor-without 1 2",
+    "close",
 ];
 
 const SKIPPED: [&str; 5] = ["", "   ", "#", "# add 5", "  #add 5"];
@@ -72,18 +73,30 @@ const SKIPPED: [&str; 5] = ["", "   ", "#", "# add 5", "  #add 5"];
 #[test]
 fn lines_are_told_apart(rt: HostRuntime) {
     for line in CALLS {
-        assert!(rt; matches!(read_line(line), Line::Call(_)), "{}", line);
+        assert!(rt;
+            matches!(read_line(Vocabulary::Building, line), Line::Call(_)),
+            "{}",
+            line
+        );
     }
     for line in NO_CALLS {
-        assert!(rt; matches!(read_line(line), Line::NoCall), "{}", line);
+        assert!(rt;
+            matches!(read_line(Vocabulary::Building, line), Line::NoCall),
+            "{}",
+            line
+        );
     }
     for line in SKIPPED {
-        assert!(rt; matches!(read_line(line), Line::Skipped), "{}", line);
+        assert!(rt;
+            matches!(read_line(Vocabulary::Building, line), Line::Skipped),
+            "{}",
+            line
+        );
     }
 }
 
 fn row_of(line: &str) -> Option<[u8; 20]> {
-    match read_call(line) {
+    match read_call(Vocabulary::Building, line) {
         Some(Call::Weigh { row }) => Some(row),
         Some(Call::WhatIf { i: 1, k: 2, row }) => Some(row),
         _ => None,
@@ -91,7 +104,7 @@ fn row_of(line: &str) -> Option<[u8; 20]> {
 }
 
 fn path_of(line: &str) -> Option<([u8; 20], u8)> {
-    match read_call(line) {
+    match read_call(Vocabulary::Building, line) {
         Some(Call::Floor { path, len }) => Some((path, len)),
         Some(
             Call::FloorWith {
@@ -130,7 +143,10 @@ fn paths_have_their_length(rt: HostRuntime) -> Result<(), Fail> {
 fn calls_have_their_arguments(rt: HostRuntime) -> Result<(), Fail> {
     assert!(rt;
         matches!(
-            read_call("open 7 count both higher forward directed"),
+            read_call(
+                Vocabulary::Building,
+                "open 7 count both higher forward directed"
+            ),
             Some(Call::Open {
                 number: 7,
                 kind: KindName::Count,
@@ -139,10 +155,15 @@ fn calls_have_their_arguments(rt: HostRuntime) -> Result<(), Fail> {
             })
         )
     );
-    assert!(rt; matches!(read_call(" add  003 "), Some(Call::Add { settings: 3 })));
     assert!(rt;
         matches!(
-            read_call("charge 1 2 3 4 500"),
+            read_call(Vocabulary::Building, " add  003 "),
+            Some(Call::Add { settings: 3 })
+        )
+    );
+    assert!(rt;
+        matches!(
+            read_call(Vocabulary::Building, "charge 1 2 3 4 500"),
             Some(Call::Charge {
                 i: 1,
                 k: 2,
@@ -154,7 +175,7 @@ fn calls_have_their_arguments(rt: HostRuntime) -> Result<(), Fail> {
     );
     assert!(rt;
         matches!(
-            read_call("narrow 1 6"),
+            read_call(Vocabulary::Building, "narrow 1 6"),
             Some(Call::Narrow { i: 1, mask: 6 })
         )
     );

@@ -1,11 +1,11 @@
 // Lines of the calls on a walk: which are calls, what they are read as, and what is reported of them.
 use answers::answer::Answer;
 use answers::report::report;
-use calls::call::Call;
+use calls::call::{Call, Vocabulary};
+use lines::line::{Line, read_call, read_line};
 use std::test::Fail;
 use told::closing::{Closing, Setup};
 use told::figure::Figure;
-use lines::line::{Line, read_call, read_line};
 
 const CALLS: [&str; 14] = [
     "start 0",
@@ -60,10 +60,18 @@ const NO_CALLS: [&str; 30] = [
 #[test]
 fn calls_are_told_apart(rt: HostRuntime) {
     for line in CALLS {
-        assert!(rt; matches!(read_line(line), Line::Call(_)), "{}", line);
+        assert!(rt;
+            matches!(read_line(Vocabulary::Walking, line), Line::Call(_)),
+            "{}",
+            line
+        );
     }
     for line in NO_CALLS {
-        assert!(rt; matches!(read_line(line), Line::NoCall), "{}", line);
+        assert!(rt;
+            matches!(read_line(Vocabulary::Walking, line), Line::NoCall),
+            "{}",
+            line
+        );
     }
 }
 
@@ -71,7 +79,7 @@ fn calls_are_told_apart(rt: HostRuntime) {
 fn ceilings_and_tickets_are_read(rt: HostRuntime) {
     assert!(rt;
         matches!(
-            read_call("start 70000"),
+            read_call(Vocabulary::Walking, "start 70000"),
             Some(Call::Start {
                 ceiling: Figure::One(70000)
             })
@@ -79,7 +87,7 @@ fn ceilings_and_tickets_are_read(rt: HostRuntime) {
     );
     assert!(rt;
         matches!(
-            read_call("ahead 3 4"),
+            read_call(Vocabulary::Walking, "ahead 3 4"),
             Some(Call::Ahead {
                 ceiling: Figure::Two(3, 4)
             })
@@ -87,7 +95,7 @@ fn ceilings_and_tickets_are_read(rt: HostRuntime) {
     );
     assert!(rt;
         matches!(
-            read_call("sit 20"),
+            read_call(Vocabulary::Walking, "sit 20"),
             Some(Call::Sit {
                 steps: 20,
                 ticket: None
@@ -96,17 +104,22 @@ fn ceilings_and_tickets_are_read(rt: HostRuntime) {
     );
     assert!(rt;
         matches!(
-            read_call("sit 20 ticket 7"),
+            read_call(Vocabulary::Walking, "sit 20 ticket 7"),
             Some(Call::Sit {
                 steps: 20,
                 ticket: Some(7)
             })
         )
     );
-    assert!(rt; matches!(read_call("close"), Some(Call::Close { ticket: None })));
     assert!(rt;
         matches!(
-            read_call("close ticket 007"),
+            read_call(Vocabulary::Walking, "close"),
+            Some(Call::Close { ticket: None })
+        )
+    );
+    assert!(rt;
+        matches!(
+            read_call(Vocabulary::Walking, "close ticket 007"),
             Some(Call::Close { ticket: Some(7) })
         )
     );

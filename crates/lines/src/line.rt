@@ -1,14 +1,15 @@
 // Reads a line of a script.
-ghost use Rattle.calls.specs.Calls.{Says};
+ghost use Rattle.calls.specs.Calls.{Says, has};
 ghost use Rattle.lines.specs.Lines.{Reads};
 ghost use Rattle.words.specs.Exact.{Exactly};
 ghost use Rattle.words.specs.Words.{words_of};
+ghost use Rattle.std.specs.Prelude.{◌≡◌, true};
 
 use arguments::building::{read_add, read_charge, read_narrow};
 use arguments::floors::{read_floor, read_floor_with};
 use arguments::walking::{read_ahead, read_close, read_sit, read_start};
 use arguments::weighing::{read_weigh, read_what_if};
-use calls::call::Call;
+use calls::call::{Call, Vocabulary};
 use calls::opening::read_open;
 use words::splitting::next_word;
 
@@ -20,19 +21,8 @@ pub enum Line {
     Call(Call),
 }
 
-/// The call that the words of a line say; `None` where they say none.
-///
-/// - `open NUMBER KIND WALKS BOUND`: a kind is `count`, `sum`, `worst` or `ranked`, the walks are `plain` or `both`, and a
-///   bound is `past`, `forward`, `directed`, or `higher` and two of these. With `both`, `past` is no bound, nor a part of one.
-/// - `add SETTINGS`, `charge I K J L CLASH`, `narrow I MASK`
-/// - `weigh S0 S1 ..`, `what-if I K S0 S1 ..`, `floor S0 S1 ..` and `floor-with J K S0 S1 ..`, with at most twenty settings
-/// - `start CEILING` and `ahead CEILING`: a ceiling is a number, or two numbers for a ranked charge. Whether it is a charge of the
-///   job's kind is not told by the line.
-/// - `sit STEPS` and `close`, and after each perhaps `ticket NUMBER`
-///
-/// A number is one digit or more, with no sign; leading zeros are allowed. NUMBER and STEPS are a `u32`, and so is a ceiling of one
-/// number and the second of two; CLASH and the first of two are a `u16`, and each other is a `u8`.
-pub fn read_call(line: &str) -> Option<Call>
+// The call, of either vocabulary, that the words of a line say.
+fn read_any_call(line: &str) -> Option<Call>
     ensures { Exactly (Says (words_of line.now)) result }
 {
     let (word, rest) = next_word(line)?;
@@ -53,9 +43,29 @@ pub fn read_call(line: &str) -> Option<Call>
     }
 }
 
-/// What a line of a script is. A comment is a line whose first word starts with `#`.
-pub fn read_line(line: &str) -> Line
-    ensures { Reads (words_of line.now) result }
+/// The call of the vocabulary that the words of a line say; `None` where they say none.
+///
+/// - `open NUMBER KIND WALKS BOUND`: a kind is `count`, `sum`, `worst` or `ranked`, the walks are `plain` or `both`, and a
+///   bound is `past`, `forward`, `directed`, or `higher` and two of these. With `both`, `past` is no bound, nor a part of one.
+/// - `add SETTINGS`, `charge I K J L CLASH`, `narrow I MASK`
+/// - `weigh S0 S1 ..`, `what-if I K S0 S1 ..`, `floor S0 S1 ..` and `floor-with J K S0 S1 ..`, with at most twenty settings
+/// - `start CEILING` and `ahead CEILING`: a ceiling is a number, or two numbers for a ranked charge. Whether it is a charge of the
+///   job's kind is not told by the line.
+/// - `sit STEPS` and `close`, and after each perhaps `ticket NUMBER`
+///
+/// `start`, `ahead`, `sit` and `close` are calls of the walking vocabulary alone.
+///
+/// A number is one digit or more, with no sign; leading zeros are allowed. NUMBER and STEPS are a `u32`, and so is a ceiling of one
+/// number and the second of two; CLASH and the first of two are a `u16`, and each other is a `u8`.
+pub fn read_call(vocabulary: Vocabulary, line: &str) -> Option<Call>
+    ensures { Exactly (λ call. Says (words_of line.now) call × (has vocabulary call ≡ true)) result }
+{
+    read_any_call(line).filter(|call| vocabulary.has(*call))
+}
+
+/// What a line of a script of the vocabulary is. A comment is a line whose first word starts with `#`.
+pub fn read_line(vocabulary: Vocabulary, line: &str) -> Line
+    ensures { Reads vocabulary (words_of line.now) result }
 {
     let Some((first, _)) = next_word(line) else {
         return Line::Skipped;
@@ -63,7 +73,7 @@ pub fn read_line(line: &str) -> Line
     if first.starts_with('#') {
         return Line::Skipped;
     }
-    match read_call(line) {
+    match read_call(vocabulary, line) {
         Some(call) => Line::Call(call),
         None => Line::NoCall,
     }

@@ -2,7 +2,7 @@ use Rattle.std.proofs.Common.{◌∷◌, sym, ap, ◌∙◌, subst}
 use Rattle.calls.specs.Calls.{Says}
 use Rattle.words.specs.Exact.{Exactly}
 use Rattle.words.specs.Words.{words_of}
-use Rattle.lines.proofs.line.read_call.Goals as goal
+use Rattle.lines.proofs.line.read_any_call.Goals as goal
 
 pub returns-in-text-2 : goal.returns-in-text-2
 returns-in-text-2 c =
