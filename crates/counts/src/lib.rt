@@ -11,7 +11,7 @@ ghost use Rattle.std.specs.Prelude.{◌≡◌, ◌+◌, ◌<◌, ◌≤◌, take
 
 use charges::Charge;
 use tables::modules::Modules;
-use tables::sheet::entry;
+use tables::sheet::{Place, entry};
 use tables::weighing::{forward, weigh};
 
 /// What is counted of a setting: its entries with the beginning, or also what it comes to with the modules after its own.
@@ -55,7 +55,8 @@ fn least_entry<C: Charge>(modules: &Modules, sheet: &[u16], j: usize, k: u8, i: 
     let mut least = None;
     for l in 0..8 {
         if modules.allows(i, l) {
-            least = lesser(least, C::of_entry(entry(sheet, j, k, i, l)));
+            let place = Place { i: j, k, j: i, l };
+            least = lesser(least, C::of_entry(entry(sheet, place)));
         }
     }
     or_zero(least)
