@@ -1,5 +1,5 @@
 // Opening, building and weighing at a desk: each call is the job's own.
-ghost use Rattle.jobs.specs.Checks.{add_checks, charge_checks, narrow_checks, weigh_checks, what_if_checks};
+ghost use Rattle.jobs.specs.Checks.{unless_walking, add_checks, charge_checks, narrow_checks, weigh_checks, what_if_checks};
 ghost use Rattle.jobs.specs.Refusals.{Decides};
 ghost use Rattle.jobs.specs.Searching.{is_open};
 ghost use Rattle.bounds.specs.Beginnings.{answerable, later_setting};
@@ -66,7 +66,7 @@ impl<C: Charge, B: SettingBound<C>> Desk<C, Both<B>> {
 impl<C: Charge, W: Walk<C>> Desk<C, W> {
     /// Adds a module. Refuses 1 to 4.
     pub fn add(&mut self, sheet: &mut [u16], settings: u8) -> Result<u8, Refusal>
-        ensures decides { Decides result (add_checks (is_open self.old.job.current) self.old.job.modules sheet.old settings)
+        ensures decides { Decides result (unless_walking (is_open self.old.job.current) (add_checks self.old.job.modules sheet.old settings))
             (λ i. (i ≡ self.old.job.modules.count)
             × Adds self.old.job.modules self.new.job.modules settings
             × Clears sheet.old sheet.new self.old.job.modules.count)
@@ -88,7 +88,7 @@ impl<C: Charge, W: Walk<C>> Desk<C, W> {
         l: u8,
         clash: u16,
     ) -> Result<(), Refusal>
-        ensures { Decides result (charge_checks (is_open self.now.job.current) self.now.job.modules sheet.old i k j l clash)
+        ensures { Decides result (unless_walking (is_open self.now.job.current) (charge_checks self.now.job.modules sheet.old i k j l clash))
             (λ _. sheet.new ≡ slice_set sheet.old (position i k j l) clash)
             (sheet.new ≡ sheet.old) }
     {
@@ -97,7 +97,7 @@ impl<C: Charge, W: Walk<C>> Desk<C, W> {
 
     /// Makes `mask` the mask of module `i`. Refuses 2, 5 and 9.
     pub fn narrow(&mut self, i: u8, mask: u8) -> Result<(), Refusal>
-        ensures decides { Decides result (narrow_checks (is_open self.old.job.current) self.old.job.modules i mask)
+        ensures decides { Decides result (unless_walking (is_open self.old.job.current) (narrow_checks self.old.job.modules i mask))
             (λ _. Narrows self.old.job.modules self.new.job.modules i mask)
             (self.new.job.modules ≡ self.old.job.modules) }
         ensures same_number { self.new.job.number ≡ self.old.job.number }

@@ -7,7 +7,7 @@ use Rattle.tables.specs.Sheet.{Clears, position}
 use Rattle.tables.specs.Setups.{charge_of}
 use Rattle.jobs.specs.declared.refusal.Refusal.{Refusal}
 use Rattle.jobs.specs.Refusals.{number_of, first}
-use Rattle.jobs.specs.Checks.{add_checks, charge_checks, narrow_checks, weigh_checks, what_if_checks}
+use Rattle.jobs.specs.Checks.{unless_walking, add_checks, charge_checks, narrow_checks, weigh_checks, what_if_checks}
 use Rattle.told.specs.declared.figure.Figure.{Figure}
 use Rattle.answers.specs.declared.answer.Answer.{Answer}
 use Rattle.answers.specs.declared.answer.Answer.TheVariants as answer
@@ -29,15 +29,15 @@ module _ (K : Kind) (figure : K.V → Figure) where
   Builds walking m sheet (Sit n t) a m' sheet' = (a ≡ answer.NotACall) × (m' ≡ m) × (sheet' ≡ sheet)
   Builds walking m sheet (Close t) a m' sheet' = (a ≡ answer.NotACall) × (m' ≡ m) × (sheet' ≡ sheet)
   Builds walking m sheet (Add n) a m' sheet' =
-      Tells (add_checks walking m sheet n) a
+      Tells (unless_walking walking (add_checks m sheet n)) a
       ((a ≡ answer.Module m.count) × Adds m m' n × Clears sheet sheet' m.count)
       ((m' ≡ m) × (sheet' ≡ sheet))
   Builds walking m sheet (Charge i k j l clash) a m' sheet' =
-      Tells (charge_checks walking m sheet i k j l clash) a
+      Tells (unless_walking walking (charge_checks m sheet i k j l clash)) a
       ((a ≡ answer.Done) × (m' ≡ m) × (sheet' ≡ slice_set sheet (position i k j l) clash))
       ((m' ≡ m) × (sheet' ≡ sheet))
   Builds walking m sheet (Narrow i mask) a m' sheet' =
-      Tells (narrow_checks walking m i mask) a
+      Tells (unless_walking walking (narrow_checks m i mask)) a
       ((a ≡ answer.Done) × Narrows m m' i mask × (sheet' ≡ sheet))
       ((m' ≡ m) × (sheet' ≡ sheet))
   Builds walking m sheet (Weigh row) a m' sheet' =

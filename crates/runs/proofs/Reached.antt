@@ -10,7 +10,7 @@ use Rattle.finding.specs.Bounding.{walk_by}
 use Rattle.finding.specs.Found.{after_steps}
 use Rattle.jobs.specs.declared.refusal.Refusal.{Refusal}
 use Rattle.jobs.specs.declared.sat.Sat.{Sat}
-use Rattle.jobs.specs.Checks.{start_checks, add_checks, charge_checks, narrow_checks, weigh_checks, what_if_checks, sit_checks, close_checks}
+use Rattle.jobs.specs.Checks.{unless_walking, start_checks, add_checks, charge_checks, narrow_checks, weigh_checks, what_if_checks, sit_checks, close_checks}
 use Rattle.jobs.specs.Refusals.{first}
 use Rattle.jobs.specs.Searching.{is_open, Starts, Sits, SitsOpen}
 use Rattle.runs.specs.declared.answer.Answer.{Answer}
@@ -119,14 +119,14 @@ module _ {C : Type 0} (K : Kind) (means : C → K.V) (floor : Modules → List �
     pub keeps : (s : Stand C) (call : BothCall C) (a : Answer C) (s' : Stand C) → DoesBoth K means floor with-setting number space s call a s' → Reached s → Reached s'
     keeps s (StartAhead ceiling) a s' h r = begins true ceiling s a s' h r
     keeps s (Plain (Start ceiling)) a s' h r = begins false ceiling s a s' h r
-    keeps s (Plain (Add n)) a s' h r = by_first (first (add_checks (is_open s.current) s.modules s.sheet n)) _ (Reached s') _ h
-        (λ e d. idle s' (d.3 ∙ no_walk s.current (none_fits (add_checks (is_open s.current) s.modules s.sheet n) e).1.0))
+    keeps s (Plain (Add n)) a s' h r = by_first (first (unless_walking (is_open s.current) (add_checks s.modules s.sheet n))) _ (Reached s') _ h
+        (λ e d. idle s' (d.3 ∙ no_walk s.current (none_fits (unless_walking (is_open s.current) (add_checks s.modules s.sheet n)) e).1.0))
         (λ e d. unaltered s s' d.1 r)
-    keeps s (Plain (Charge i k j l clash)) a s' h r = by_first (first (charge_checks (is_open s.current) s.modules s.sheet i k j l clash)) _ (Reached s') _ h
-        (λ e d. idle s' (d.3 ∙ no_walk s.current (none_fits (charge_checks (is_open s.current) s.modules s.sheet i k j l clash) e).1.0))
+    keeps s (Plain (Charge i k j l clash)) a s' h r = by_first (first (unless_walking (is_open s.current) (charge_checks s.modules s.sheet i k j l clash))) _ (Reached s') _ h
+        (λ e d. idle s' (d.3 ∙ no_walk s.current (none_fits (unless_walking (is_open s.current) (charge_checks s.modules s.sheet i k j l clash)) e).1.0))
         (λ e d. unaltered s s' d.1 r)
-    keeps s (Plain (Narrow i mask)) a s' h r = by_first (first (narrow_checks (is_open s.current) s.modules i mask)) _ (Reached s') _ h
-        (λ e d. idle s' (d.3 ∙ no_walk s.current (none_fits (narrow_checks (is_open s.current) s.modules i mask) e).0))
+    keeps s (Plain (Narrow i mask)) a s' h r = by_first (first (unless_walking (is_open s.current) (narrow_checks s.modules i mask))) _ (Reached s') _ h
+        (λ e d. idle s' (d.3 ∙ no_walk s.current (none_fits (unless_walking (is_open s.current) (narrow_checks s.modules i mask)) e).0))
         (λ e d. unaltered s s' d.1 r)
     keeps s (Plain (Sit t n room)) a s' h r = by_first (first (sit_checks (is_open s.current) number s.sheet (min room space) t n)) _ (Reached s') _ h
         (λ e d. still s s' d.3 d.4 (sits s s' n d.0 s.current s'.current d.2 r))

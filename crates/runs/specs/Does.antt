@@ -8,7 +8,7 @@ use Rattle.tables.specs.Sheet.{Clears, position}
 use Rattle.walks.specs.declared.outcome.Closed.{Closed}
 use Rattle.jobs.specs.declared.refusal.Refusal.{Refusal}
 use Rattle.jobs.specs.declared.sat.Sat.{Sat}
-use Rattle.jobs.specs.Checks.{add_checks, charge_checks, narrow_checks, weigh_checks, what_if_checks, start_checks, sit_checks, close_checks}
+use Rattle.jobs.specs.Checks.{unless_walking, add_checks, charge_checks, narrow_checks, weigh_checks, what_if_checks, start_checks, sit_checks, close_checks}
 use Rattle.jobs.specs.Refusals.{first}
 use Rattle.jobs.specs.Searching.{is_open, Starts, SitsOpen, ClosesOpen}
 use Rattle.runs.specs.declared.answer.Answer.{Answer}
@@ -34,13 +34,13 @@ module _ {C : Type 0} (K : Kind) (means : C → K.V) (floor : Modules → List �
   -- the call is answered a, and the job stands as s' after it
   abbrev pub Does : Stand C → Call C → Answer C → Stand C → Type 0
   Does s (Add n) a s' =
-      Tells (add_checks (is_open s.current) s.modules s.sheet n) s a s'
+      Tells (unless_walking (is_open s.current) (add_checks s.modules s.sheet n)) s a s'
       ((a ≡ answer.Module s.modules.count) × Adds s.modules s'.modules n × Clears s.sheet s'.sheet s.modules.count × (s'.current ≡ s.current) × (s'.memory ≡ s.memory))
   Does s (Charge i k j l clash) a s' =
-      Tells (charge_checks (is_open s.current) s.modules s.sheet i k j l clash) s a s'
+      Tells (unless_walking (is_open s.current) (charge_checks s.modules s.sheet i k j l clash)) s a s'
       ((a ≡ answer.Done) × (s'.sheet ≡ slice_set s.sheet (position i k j l) clash) × (s'.modules ≡ s.modules) × (s'.current ≡ s.current) × (s'.memory ≡ s.memory))
   Does s (Narrow i mask) a s' =
-      Tells (narrow_checks (is_open s.current) s.modules i mask) s a s'
+      Tells (unless_walking (is_open s.current) (narrow_checks s.modules i mask)) s a s'
       ((a ≡ answer.Done) × Narrows s.modules s'.modules i mask × (s'.sheet ≡ s.sheet) × (s'.current ≡ s.current) × (s'.memory ≡ s.memory))
   Does s (Start ceiling) a s' = Begins false ceiling s a s'
   Does s (Sit ticket steps room) a s' =
