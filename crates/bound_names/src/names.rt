@@ -29,6 +29,30 @@ pub enum SettingName {
     Pair(SettingOne, SettingOne),
 }
 
+impl SettingOne {
+    // The bound of that name.
+    fn bound(self) -> SimpleBound
+        ensures { result ≡ simple_of self }
+    {
+        match self {
+            SettingOne::ByForward => SimpleBound::Forward,
+            SettingOne::ByDirected => SimpleBound::Directed,
+        }
+    }
+}
+
+impl SettingName {
+    // The bound of that name.
+    fn bound(self) -> BoundName
+        ensures { result ≡ bound_of self }
+    {
+        match self {
+            SettingName::Single(a) => BoundName::One(a.bound()),
+            SettingName::Pair(a, b) => BoundName::Higher(a.bound(), b.bound()),
+        }
+    }
+}
+
 fn setting_one(bound: SimpleBound) -> Option<SettingOne>
     ensures { MatchOption result (setting_one bound ≡ false) (λ s. (simple_of s ≡ bound) × (setting_one bound ≡ true)) }
 {
@@ -44,15 +68,8 @@ pub fn setting_name(bound: BoundName) -> Option<SettingName>
     ensures { MatchOption result (setting bound ≡ false) (λ s. (bound_of s ≡ bound) × (setting bound ≡ true)) }
 {
     match bound {
-        BoundName::One(a) => {
-            let one = setting_one(a)?;
-            Some(SettingName::Single(one))
-        }
-        BoundName::Higher(a, b) => {
-            let first = setting_one(a)?;
-            let second = setting_one(b)?;
-            Some(SettingName::Pair(first, second))
-        }
+        BoundName::One(a) => Some(SettingName::Single(setting_one(a)?)),
+        BoundName::Higher(a, b) => Some(SettingName::Pair(setting_one(a)?, setting_one(b)?)),
     }
 }
 
@@ -137,10 +154,8 @@ impl<C: Charge> Bound<C> for SettingOne {
         len: usize,
         scratch: &mut [C],
     ) -> C {
-        match *self {
-            SettingOne::ByForward => Forward {}.floor_of(modules, sheet, path, len, scratch),
-            SettingOne::ByDirected => Directed {}.floor_of(modules, sheet, path, len, scratch),
-        }
+        let bound = self.bound();
+        Simple { bound }.floor_of(modules, sheet, path, len, scratch)
     }
 }
 
@@ -197,12 +212,8 @@ impl<C: Charge> Bound<C> for SettingName {
         len: usize,
         scratch: &mut [C],
     ) -> C {
-        match *self {
-            SettingName::Single(a) => a.floor_of(modules, sheet, path, len, scratch),
-            SettingName::Pair(first, second) => Higher { first, second }.floor_of(
-                modules, sheet, path, len, scratch,
-            ),
-        }
+        let bound = self.bound();
+        Named { bound }.floor_of(modules, sheet, path, len, scratch)
     }
 }
 

@@ -1,5 +1,6 @@
 -- What a line of a script does, and what is printed after it.
 use Rattle.std.specs.Prelude.{◌≡◌, ℕ, List, Some, None, Option, MatchOption}
+use Rattle.calls.specs.declared.call.Vocabulary.{Vocabulary}
 use Rattle.lines.specs.Lines.{Reads}
 use Rattle.words.specs.Words.{words_of}
 use Rattle.answers.specs.declared.answer.Answer.TheVariants.{NotACall}
@@ -15,6 +16,6 @@ Does job sheet Skipped a job' sheet' = (a ≡ None) × (job' ≡ job) × (sheet'
 Does job sheet NoCall a job' sheet' = (a ≡ Some (record { closed = None; answer = NotACall })) × (job' ≡ job) × (sheet' ≡ sheet)
 Does job sheet (Call c) a job' sheet' = MatchOption a ⊥ (λ x. Answers job sheet c x job' sheet')
 
--- a line does what is read from its words
-abbrev pub Follows : Option AnyJob → List ℕ → List ℕ → Option Told → Option AnyJob → List ℕ → Type 0
-Follows job sheet line a job' sheet' = (l : Line) × Reads (words_of line) l × Does job sheet l a job' sheet'
+-- a line of a script of the vocabulary does what is read from its words
+abbrev pub Follows : Vocabulary → Option AnyJob → List ℕ → List ℕ → Option Told → Option AnyJob → List ℕ → Type 0
+Follows v job sheet line a job' sheet' = (l : Line) × Reads v (words_of line) l × Does job sheet l a job' sheet'

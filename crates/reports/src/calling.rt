@@ -12,24 +12,11 @@ use desks::desk::Desk;
 use jobs::refusal::Refusal;
 use walks::ways::Walk;
 
-// The answer to a call that gives a charge.
-fn charge_or_refused<C: Figured>(given: Result<C, Refusal>) -> Answer
-    ensures { MatchResult given (λ v. result ≡ answer.Charge (C.Figured.shows v)) (λ e. result ≡ answer.Refused (number_of e)) }
+// The answer to a call that was taken, or the refusal.
+pub(crate) fn told(given: Result<Answer, Refusal>) -> Answer
+    ensures { MatchResult given (λ a. result ≡ a) (λ e. result ≡ answer.Refused (number_of e)) }
 {
-    match given {
-        Ok(charge) => Answer::Charge(charge.figure()),
-        Err(refusal) => Answer::Refused(refusal.number()),
-    }
-}
-
-// The answer to a call that gives nothing.
-fn done_or_refused(given: Result<(), Refusal>) -> Answer
-    ensures { MatchResult given (λ _. result ≡ answer.Done) (λ e. result ≡ answer.Refused (number_of e)) }
-{
-    match given {
-        Ok(()) => Answer::Done,
-        Err(refusal) => Answer::Refused(refusal.number()),
-    }
+    given.unwrap_or_else(|refusal| Answer::Refused(refusal.number()))
 }
 
 /// Carries out a call that builds or weighs, and gives its answer.
@@ -47,19 +34,20 @@ pub fn build<C: Figured, W: Walk<C>>(desk: &mut Desk<C, W>, sheet: &mut [u16], c
         | Call::Ahead { .. }
         | Call::Sit { .. }
         | Call::Close { .. } => Answer::NotACall,
-        Call::Add { settings } => match desk.add(sheet, settings) {
-            Ok(module) => Answer::Module(module),
-            Err(refusal) => Answer::Refused(refusal.number()),
-        },
+        Call::Add { settings } => told(desk.add(sheet, settings).map(|i| Answer::Module(i))),
         Call::Charge { i, k, j, l, clash } => {
             let given = desk.charge(sheet, i, k, j, l, clash);
-            done_or_refused(given)
+            told(given.map(|_| Answer::Done))
         }
-        Call::Narrow { i, mask } => done_or_refused(desk.narrow(i, mask)),
-        Call::Weigh { row } => charge_or_refused(desk.weigh(sheet, &row)),
+        Call::Narrow { i, mask } => told(desk.narrow(i, mask).map(|_| Answer::Done)),
+        Call::Weigh { row } => {
+            let given = desk.weigh(sheet, &row);
+            told(given.map(|charge| Answer::Charge(charge.figure())))
+        }
         Call::WhatIf { i, k, row } => {
             let mut tried = row;
-            charge_or_refused(desk.what_if(sheet, &mut tried, i, k))
+            let given = desk.what_if(sheet, &mut tried, i, k);
+            told(given.map(|charge| Answer::Charge(charge.figure())))
         }
     }
 }

@@ -41,8 +41,10 @@ impl Figured for Count {
 
     fn of_figure(figure: Figure) -> Option<Count> {
         match figure {
-            Figure::One(n) if n <= 65535 => Some(Count { number: n as u16 }),
-            _ => None,
+            Figure::One(n) => Some(Count {
+                number: u16::try_from(n).ok()?,
+            }),
+            Figure::Two(_, _) => None,
         }
     }
 }
@@ -80,8 +82,10 @@ impl Figured for Worst {
 
     fn of_figure(figure: Figure) -> Option<Worst> {
         match figure {
-            Figure::One(n) if n <= 65535 => Some(Worst { number: n as u16 }),
-            _ => None,
+            Figure::One(n) => Some(Worst {
+                number: u16::try_from(n).ok()?,
+            }),
+            Figure::Two(_, _) => None,
         }
     }
 }

@@ -4,6 +4,7 @@ use crate::script::follow;
 use crate::session::end;
 use answers::answer::Answer;
 use answers::report::report;
+use calls::call::Vocabulary;
 use std::alloc::AllocError;
 use std::io;
 use std::io::{BufRead, BufReader};
@@ -34,9 +35,9 @@ fn print_told(rt: &HostRuntime, line: &str, told: Option<Told>) -> io::Result<()
     }
 }
 
-/// Follows the lines of standard input, and prints each call with its answer. What is open at the end is let go, and its
+/// Follows the lines of standard input, a script of the vocabulary, and prints each call with its answer. What is open at the end is let go, and its
 /// walk closed, also where a line cannot be read or printed.
-pub fn perform(rt: &HostRuntime) -> io::Result<()> {
+pub fn perform(rt: &HostRuntime, vocabulary: Vocabulary) -> io::Result<()> {
     let heap = rt.alloc();
     let mut sheet = vec![in heap; 0u16; ENTRIES]?;
     let lines = BufReader::new(heap, rt.stdin())?.lines(heap);
@@ -45,7 +46,7 @@ pub fn perform(rt: &HostRuntime) -> io::Result<()> {
     for line in lines {
         match line {
             Ok(text) => {
-                let (after, told) = follow(job, sheet.as_mut_slice(), text.as_str());
+                let (after, told) = follow(vocabulary, job, sheet.as_mut_slice(), text.as_str());
                 job = after;
                 done = print_told(rt, text.as_str(), told);
             }

@@ -5,13 +5,19 @@ use crate::opened::AnyJob;
 use crate::printed::Told;
 use crate::session::answer;
 use answers::answer::Answer;
+use calls::call::Vocabulary;
 use lines::line::{Line, read_line};
 
-/// Follows a line of a script: gives the job that is open then, and what is printed. A blank line and a comment get nothing.
-pub fn follow(job: Option<AnyJob>, sheet: &mut [u16], line: &str) -> (Option<AnyJob>, Option<Told>)
-    ensures { Follows job sheet.old line.now result.1 result.0 sheet.new }
+/// Follows a line of a script of the vocabulary: gives the job that is open then, and what is printed. A blank line and a comment get nothing.
+pub fn follow(
+    vocabulary: Vocabulary,
+    job: Option<AnyJob>,
+    sheet: &mut [u16],
+    line: &str,
+) -> (Option<AnyJob>, Option<Told>)
+    ensures { Follows vocabulary job sheet.old line.now result.1 result.0 sheet.new }
 {
-    match read_line(line) {
+    match read_line(vocabulary, line) {
         Line::Skipped => (job, None),
         Line::NoCall => (job, Some(Told::only(Answer::NotACall))),
         Line::Call(call) => {

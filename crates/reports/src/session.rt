@@ -26,10 +26,10 @@ impl<C: Figured> Opened<C> {
     {
         match walks {
             Walks::Plain => Some(Opened::ForPlain(Desk::open_plain(number, Named { bound }))),
-            Walks::Both => match setting_name(bound) {
-                Some(name) => Some(Opened::ForBoth(Desk::open_both(number, name))),
-                None => None,
-            },
+            Walks::Both => {
+                let name = setting_name(bound)?;
+                Some(Opened::ForBoth(Desk::open_both(number, name)))
+            }
         }
     }
 
@@ -114,34 +114,22 @@ impl AnyJob {
     }
 }
 
-// Zeros all over the sheet.
-fn blank(sheet: &mut [u16])
-    ensures { sheet.new ≡ replicate (length sheet.old) 0 }
-{
-    sheet.fill(0);
-}
-
 // A call on what is open.
 fn on_job(job: Option<AnyJob>, sheet: &mut [u16], call: Call) -> (Option<AnyJob>, Answer)
     ensures { OnJob job sheet.old call result.1 result.0 sheet.new }
 {
-    match job {
-        None => (None, Answer::NotACall),
-        Some(job) => {
-            let (job, answer) = job.carry_out(sheet, call);
-            (Some(job), answer)
-        }
-    }
+    let Some(job) = job else {
+        return (None, Answer::NotACall);
+    };
+    let (job, answer) = job.carry_out(sheet, call);
+    (Some(job), answer)
 }
 
 /// Lets go what is open, and gives what is printed of its walk, where one is open.
 pub fn end(job: Option<AnyJob>) -> Option<Closing>
     ensures { Ended job result }
 {
-    match job {
-        None => None,
-        Some(job) => job.let_go(),
-    }
+    job?.let_go()
 }
 
 /// Carries out a call of a script: gives what is open then, and what is printed. Open puts a fresh job in the place of what
@@ -158,7 +146,7 @@ pub fn answer(job: Option<AnyJob>, sheet: &mut [u16], call: Call) -> (Option<Any
         } => match AnyJob::open(number, kind, walks, bound) {
             Some(fresh) => {
                 let closed = end(job);
-                blank(sheet);
+                sheet.fill(0);
                 let answer = Answer::Done;
                 (Some(fresh), Told { closed, answer })
             }

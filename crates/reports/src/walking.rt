@@ -1,10 +1,9 @@
 // The calls of walking, carried out on a job.
-ghost use Rattle.std.specs.Prelude.{◌≡◌, ◌≤◌, true, false, length, MatchResult};
-ghost use Rattle.jobs.specs.Refusals.{number_of};
+ghost use Rattle.std.specs.Prelude.{◌≡◌, ◌≤◌, true, false, length};
 ghost use Rattle.walks.specs.Outcomes.{fixed};
-ghost use Rattle.answers.specs.declared.answer.Answer.TheVariants as answer;
-ghost use Rattle.reports.specs.Walking.{brought, setup_told, StartsTold, SitsTold, ClosesTold, Leaves};
+ghost use Rattle.reports.specs.Walking.{setup_told, StartsTold, SitsTold, ClosesTold, Leaves};
 
+use crate::calling::told;
 use crate::figured::Figured;
 use answers::answer::Answer;
 use bounds::setting::SettingBound;
@@ -12,19 +11,8 @@ use charges::Charge;
 use desks::desk::Desk;
 use told::closing::{Closing, Setup};
 use told::figure::Figure;
-use jobs::refusal::Refusal;
 use walks::outcome::Closed;
 use walks::ways::{Both, Walk};
-
-// The answer to a start.
-fn ticket_or_refused(given: Result<u32, Refusal>) -> Answer
-    ensures { MatchResult given (λ t. result ≡ answer.Ticket t) (λ e. result ≡ answer.Refused (number_of e)) }
-{
-    match given {
-        Ok(number) => Answer::Ticket(number),
-        Err(refusal) => Answer::Refused(refusal.number()),
-    }
-}
 
 /// Begins a plain walk. Where the figure is no charge of the kind, it is no call.
 pub fn start<C: Figured, W: Walk<C>>(desk: &mut Desk<C, W>, ceiling: Figure) -> Answer
@@ -35,7 +23,7 @@ pub fn start<C: Figured, W: Walk<C>>(desk: &mut Desk<C, W>, ceiling: Figure) -> 
 {
     match C::of_figure(ceiling) {
         None => Answer::NotACall,
-        Some(charge) => ticket_or_refused(desk.start(charge)),
+        Some(charge) => told(desk.start(charge).map(|number| Answer::Ticket(number))),
     }
 }
 
@@ -51,17 +39,7 @@ pub fn start_ahead<C: Figured, B: SettingBound<C>>(
 {
     match C::of_figure(ceiling) {
         None => Answer::NotACall,
-        Some(charge) => ticket_or_refused(desk.start_ahead(charge)),
-    }
-}
-
-// The number of the ticket that is brought: the one that is written, or else the job's own.
-fn bring(own: u32, ticket: Option<u32>) -> u32
-    ensures { result ≡ brought own ticket }
-{
-    match ticket {
-        Some(written) => written,
-        None => own,
+        Some(charge) => told(desk.start_ahead(charge).map(|number| Answer::Ticket(number))),
     }
 }
 
@@ -78,14 +56,12 @@ pub fn sit<C: Figured, W: Walk<C>>(
     ensures same_number { desk.new.job.number ≡ desk.old.job.number }
     ensures same_walks { desk.new.job.walks ≡ desk.old.job.walks }
 {
-    let number = bring(desk.number(), ticket);
-    match desk.sit(sheet, number, steps, scratch) {
-        Ok(sat) => Answer::Sat {
-            made: sat.made,
-            finished: sat.finished,
-        },
-        Err(refusal) => Answer::Refused(refusal.number()),
-    }
+    let number = ticket.unwrap_or(desk.number());
+    let given = desk.sit(sheet, number, steps, scratch);
+    told(given.map(|sat| Answer::Sat {
+        made: sat.made,
+        finished: sat.finished,
+    }))
 }
 
 // What is printed of a walk that ended: of the row, the settings of so many modules.
@@ -96,19 +72,15 @@ fn closing<C: Figured>(closed: Closed<C>, row: [u8; 20], modules: usize) -> Clos
     ensures steps { result.steps ≡ closed.steps }
     ensures setup { result.setup ≡ setup_told (fixed closed.outcome).with_setup row modules }
 {
-    let setup = if closed.outcome.has_setup() {
-        Some(Setup {
-            settings: row,
-            len: modules as u8,
-        })
-    } else {
-        None
+    let setup = Setup {
+        settings: row,
+        len: modules as u8,
     };
     Closing {
         outcome: closed.outcome.number(),
         charge: closed.charge.figure(),
         steps: closed.steps,
-        setup,
+        setup: closed.outcome.has_setup().then_some(setup),
     }
 }
 
@@ -119,13 +91,11 @@ pub fn close<C: Figured, W: Walk<C>>(desk: &mut Desk<C, W>, ticket: Option<u32>)
     ensures same_number { desk.new.job.number ≡ desk.old.job.number }
     ensures same_walks { desk.new.job.walks ≡ desk.old.job.walks }
 {
-    let number = bring(desk.number(), ticket);
+    let number = ticket.unwrap_or(desk.number());
     let modules = desk.count();
     let mut row = [0u8; 20];
-    match desk.close(number, &mut row) {
-        Ok(closed) => Answer::Closed(closing(closed, row, modules)),
-        Err(refusal) => Answer::Refused(refusal.number()),
-    }
+    let given = desk.close(number, &mut row);
+    told(given.map(|closed| Answer::Closed(closing(closed, row, modules))))
 }
 
 /// Lets the job go, and gives what is printed of its walk, where one is open.
@@ -134,8 +104,6 @@ pub fn leave<C: Figured, W: Walk<C>>(desk: Desk<C, W>) -> Option<Closing>
 {
     let modules = desk.count();
     let mut row = [0u8; 20];
-    match desk.leave(&mut row) {
-        Some(closed) => Some(closing(closed, row, modules)),
-        None => None,
-    }
+    let closed = desk.leave(&mut row)?;
+    Some(closing(closed, row, modules))
 }

@@ -2,8 +2,9 @@
 #![tactic(auto)]
 
 use std::io;
+use calls::call::Vocabulary;
 use reports::program::perform;
 
 fn main(rt: HostRuntime) -> io::Result<()> {
-    perform(&rt)
+    perform(&rt, Vocabulary::Walking)
 }
