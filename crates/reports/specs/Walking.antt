@@ -1,5 +1,6 @@
 -- What the calls of walking do to the walk of a job, and what they are answered.
 use Rattle.std.specs.Prelude.{◌≡◌, ℕ, Bool, cond, List, replicate, Some, None, Option, MatchOption}
+use Rattle.std.specs.Option.{unwrap_or}
 use Rattle.charges.specs.Kinds.{Kind}
 use Rattle.tables.specs.declared.modules.Modules.{Modules}
 use Rattle.walks.specs.declared.state.Search.{Search}
@@ -17,8 +18,7 @@ use Rattle.reports.specs.Building.{Tells}
 
 -- the number of the ticket that is brought: the one that is written, or else the job's own
 abbrev pub brought : ℕ → Option ℕ → ℕ
-brought number None = number
-brought number (Some ticket) = ticket
+brought number ticket = unwrap_or ticket number
 
 -- twenty zeros
 abbrev pub blank_row : List ℕ

@@ -19,6 +19,13 @@ pub(crate) fn told(given: Result<Answer, Refusal>) -> Answer
     given.unwrap_or_else(|refusal| Answer::Refused(refusal.number()))
 }
 
+// The answer to a call that gives a charge.
+fn charged<C: Figured>(given: Result<C, Refusal>) -> Answer
+    ensures { MatchResult given (λ v. result ≡ answer.Charge (C.Figured.shows v)) (λ e. result ≡ answer.Refused (number_of e)) }
+{
+    told(given.map(|charge| Answer::Charge(charge.figure())))
+}
+
 /// Carries out a call that builds or weighs, and gives its answer.
 pub fn build<C: Figured, W: Walk<C>>(desk: &mut Desk<C, W>, sheet: &mut [u16], call: Call) -> Answer
     ensures builds { Builds C.Charge.kind (λ v. C.Figured.shows (C.Charge.made v)) (is_open desk.old.job.current) desk.old.job.modules sheet.old call result desk.new.job.modules sheet.new }
@@ -40,14 +47,10 @@ pub fn build<C: Figured, W: Walk<C>>(desk: &mut Desk<C, W>, sheet: &mut [u16], c
             told(given.map(|_| Answer::Done))
         }
         Call::Narrow { i, mask } => told(desk.narrow(i, mask).map(|_| Answer::Done)),
-        Call::Weigh { row } => {
-            let given = desk.weigh(sheet, &row);
-            told(given.map(|charge| Answer::Charge(charge.figure())))
-        }
+        Call::Weigh { row } => charged(desk.weigh(sheet, &row)),
         Call::WhatIf { i, k, row } => {
             let mut tried = row;
-            let given = desk.what_if(sheet, &mut tried, i, k);
-            told(given.map(|charge| Answer::Charge(charge.figure())))
+            charged(desk.what_if(sheet, &mut tried, i, k))
         }
     }
 }

@@ -1,7 +1,7 @@
 // A job as a script opens it: of a kind, for walks, with a bound.
+use bound_names::names::{Named, SettingName};
 use charges::{Count, Ranked, Sum, Worst};
 use desks::desk::Desk;
-use bound_names::names::{Named, SettingName};
 use walks::ways::{Both, Plain};
 
 /// A job that charges by `C`, for either choice of walks, at its desk.

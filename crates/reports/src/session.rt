@@ -11,12 +11,12 @@ use crate::printed::Told;
 use crate::walked::{call_both, call_plain};
 use crate::walking::leave;
 use answers::answer::Answer;
+use bound_names::names::{Named, setting_name};
 use bounds::asking::SCRATCH;
 use calls::call::{BoundName, Call, KindName, Walks};
 use charges::{Charge, Count, Ranked, Sum, Worst};
 use desks::desk::Desk;
 use told::closing::Closing;
-use bound_names::names::{Named, setting_name};
 
 impl<C: Figured> Opened<C> {
     // A fresh job; `None` where the bound is no setting bound and both walks are asked for.

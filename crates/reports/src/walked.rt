@@ -6,11 +6,11 @@ use crate::calling::build;
 use crate::figured::Figured;
 use crate::walking::{close, sit, start, start_ahead};
 use answers::answer::Answer;
+use bound_names::names::{Named, SettingName};
 use bounds::setting::SettingBound;
 use calls::call::Call;
 use charges::Charge;
 use desks::desk::Desk;
-use bound_names::names::{Named, SettingName};
 use walks::ways::{Both, Plain};
 
 /// Carries out a call on a job for plain walks.

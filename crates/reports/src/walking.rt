@@ -39,7 +39,10 @@ pub fn start_ahead<C: Figured, B: SettingBound<C>>(
 {
     match C::of_figure(ceiling) {
         None => Answer::NotACall,
-        Some(charge) => told(desk.start_ahead(charge).map(|number| Answer::Ticket(number))),
+        Some(charge) => told(
+            desk.start_ahead(charge)
+                .map(|number| Answer::Ticket(number)),
+        ),
     }
 }
 
@@ -94,8 +97,10 @@ pub fn close<C: Figured, W: Walk<C>>(desk: &mut Desk<C, W>, ticket: Option<u32>)
     let number = ticket.unwrap_or(desk.number());
     let modules = desk.count();
     let mut row = [0u8; 20];
-    let given = desk.close(number, &mut row);
-    told(given.map(|closed| Answer::Closed(closing(closed, row, modules))))
+    match desk.close(number, &mut row) {
+        Ok(closed) => Answer::Closed(closing(closed, row, modules)),
+        Err(refusal) => Answer::Refused(refusal.number()),
+    }
 }
 
 /// Lets the job go, and gives what is printed of its walk, where one is open.

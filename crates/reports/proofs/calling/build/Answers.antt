@@ -14,12 +14,12 @@ returns-in-Weigh g c =
     let walking = is_open c.args.desk.now.job.current in
     let sheet = c.args.sheet.now in
     let row = c.in-Weigh.row in
-    let r = c.charge_or_refused.result in
+    let r = c.charged.result in
     record {
       builds = subst (λ (call : Call). Builds K (λ v. g.C.Figured.shows (g.C.Charge.made v)) walking m sheet call r m sheet) (sym c.in-Weigh.is)
           (tells_charge g.C.Charge.means g.C.Charge.made g.C.Figured.shows g.met.C.Charge.stands g.met.C.Figured.alike
           c.weigh.result (weigh_checks m sheet row) (charge_of K sheet row m.count) r _ _ refl refl
-          c.weigh.ensures c.charge_or_refused.ensures);
+          c.weigh.ensures c.charged.ensures);
       same_number = refl;
       same_walks = refl;
       same_walk = refl;
@@ -34,12 +34,12 @@ returns-in-WhatIf g c =
     let row = c.in-WhatIf.row in
     let i = c.in-WhatIf.i in
     let k = c.in-WhatIf.k in
-    let r = c.charge_or_refused-in-WhatIf.result in
+    let r = c.charged-in-WhatIf.result in
     record {
       builds = subst (λ (call : Call). Builds K (λ v. g.C.Figured.shows (g.C.Charge.made v)) walking m sheet call r m sheet) (sym c.in-WhatIf.is)
           (tells_charge g.C.Charge.means g.C.Charge.made g.C.Figured.shows g.met.C.Charge.stands g.met.C.Figured.alike
           c.what_if.result (what_if_checks m sheet row i k) (charge_of K sheet (set row i k) m.count) r _ _ refl refl
-          c.what_if.ensures.decides c.charge_or_refused-in-WhatIf.ensures);
+          c.what_if.ensures.decides c.charged-in-WhatIf.ensures);
       same_number = refl;
       same_walks = refl;
       same_walk = refl;
