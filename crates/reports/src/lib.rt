@@ -7,6 +7,7 @@ pub mod opened;
 pub mod printed;
 pub mod program;
 pub mod script;
+pub mod scripted;
 pub mod session;
 pub mod walked;
 pub mod walking;

@@ -8,7 +8,7 @@ ghost use Rattle.std.specs.Prelude.{◌≡◌, true, false, length, replicate, M
 use crate::figured::Figured;
 use crate::opened::{AnyJob, Opened};
 use crate::printed::Told;
-use crate::walked::{call_both, call_plain};
+use crate::walked::perform_call;
 use crate::walking::leave;
 use answers::answer::Answer;
 use bound_names::names::{Named, setting_name};
@@ -39,11 +39,11 @@ impl<C: Figured> Opened<C> {
     {
         match self {
             Opened::ForPlain(mut desk) => {
-                let answer = call_plain(&mut desk, sheet, scratch, call);
+                let answer = perform_call(&mut desk, sheet, scratch, call);
                 (Opened::ForPlain(desk), answer)
             }
             Opened::ForBoth(mut desk) => {
-                let answer = call_both(&mut desk, sheet, scratch, call);
+                let answer = perform_call(&mut desk, sheet, scratch, call);
                 (Opened::ForBoth(desk), answer)
             }
         }
