@@ -1,5 +1,5 @@
 -- What `has_all` says of each module.
-use Rattle.std.proofs.Common.{◌≡◌, ℕ, zero, suc, ◌+◌, ◌<◌, ◌≤◌, Bool, true, false, ◌&&◌, List, length, get_or, sym, refl, ap, subst, ◌∙◌, ⊎_elim, add-one, arith}
+use Rattle.std.proofs.Common.{◌≡◌, ℕ, zero, suc, ◌<◌, ◌≤◌, Bool, true, false, List, length, get_or, sym, refl, ap, subst, ◌∙◌, ⊎_elim, arith}
 use Rattle.std.proofs.lemmas.Bool.{and_parts, and_left, and_right, and_from, ltb-true, lt-ltb, le-ltb, cases_lt}
 use Rattle.std.proofs.lemmas.List.FromFn.{length-range_with_len, get_or-range_with_len}
 use Rattle.std.specs.Bool.{MatchBool}
@@ -9,9 +9,6 @@ use Rattle.tables.specs.Modules.{settings_of, module_of}
 use Rattle.tables.specs.Sheet.{Whole}
 use Rattle.tables.specs.Setups.{Holds}
 use Rattle.jobs.specs.Checks.{has, has_all}
-
-pub has_all_more : (m : Modules) (row : List ℕ) (n : ℕ) → has_all m row (n + 1) ≡ has_all m row n && has m n (get_or row n 0)
-has_all_more m row n = rw add-one refl
 
 pub has_all_fails : (m : Modules) (row : List ℕ) (n i : ℕ) → i < n → has m i (get_or row i 0) ≡ false → has_all m row n ≡ false
 has_all_fails m row zero i l h = absurd (omega arith)

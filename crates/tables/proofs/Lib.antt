@@ -1,3 +1,2 @@
 pub mod JoinSteps
-pub mod Records
 pub mod Masks

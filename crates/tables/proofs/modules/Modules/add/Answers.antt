@@ -1,6 +1,5 @@
-use Rattle.std.proofs.Common.{◌-◌, ◌<◌, length, refl, ap, arith, rules}
+use Rattle.std.proofs.Common.{arith}
 use Rattle.std.proofs.lemmas.Nat.{one_shl, pow_below}
-use Rattle.tables.proofs.Records.{adds}
 use Rattle.tables.proofs.modules.Modules.add.Goals as goal
 
 pub invariant_of-self : goal.invariant_of-self
@@ -8,8 +7,3 @@ invariant_of-self c =
     let shifted = one_shl c.args.settings 16 (omega arith) in
     let more = pow_below 0 c.args.settings (omega arith) in
     record { some = c.requires.1.0; few = c.requires.1.1; allowing = omega arith; own = omega arith }
-
-pub returns : goal.returns
-returns c =
-    let h : c.args.self.now.count < length c.args.self.now.records = search rules in
-    adds c.args.self.now _ _ h refl refl (ap (λ n. n - 1) (one_shl c.args.settings 16 (omega arith)))
