@@ -1,2 +1,2 @@
 pub mod Answerable
-pub mod Rows
+pub mod Changing

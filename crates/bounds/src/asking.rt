@@ -15,12 +15,7 @@ pub fn can_answer(modules: &Modules, sheet: &[u16], path: [u8; 20], len: usize, 
     if sheet.len() < ENTRIES || room < SCRATCH || len == 0 || len > modules.count() {
         return false;
     }
-    for i in 0..len {
-        if !modules.allows(i, path[i]) {
-            return false;
-        }
-    }
-    true
+    (0..len).all(|i| modules.allows(i, path[i]))
 }
 
 /// Whether `k` is an allowed setting of module `j`, which comes after the first `len` modules.

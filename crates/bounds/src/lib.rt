@@ -3,4 +3,5 @@
 
 pub mod asking;
 pub mod bound;
+pub mod rows;
 pub mod setting;

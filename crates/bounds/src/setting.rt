@@ -9,6 +9,7 @@ ghost use Rattle.tables.specs.declared.modules.Modules.{Modules};
 
 use crate::asking::{SCRATCH, can_answer, is_later_setting};
 use crate::bound::Bound;
+use crate::rows::answer_place;
 use charges::Charge;
 use tables::modules::Modules;
 
@@ -49,12 +50,13 @@ pub trait SettingBound<C: Charge>: Bound<C> {
         ensures value { C.Charge.means result ≡ C.Charge.means (Self.Bound.floor self.now modules.now sheet.now (take len path)) }
     {
         let floor = self.floor_of(modules, sheet, path, len, scratch);
+        // Stays: not `change_rows`, since a closure cannot show that the room fits in memory; here the scratch shows it.
         for j in len..modules.count() {
-            for k in 0..8u8 {
+            for k in 0..8 {
                 if modules.allows(j, k) {
                     let mut room = [C::zero(); SCRATCH];
                     let more = self.answer_of(modules, sheet, path, len, j, k, &mut room);
-                    scratch[8 * j + k as usize] = more;
+                    scratch[answer_place(j, k)] = more;
                 }
             }
         }
@@ -101,5 +103,5 @@ pub fn prepared_answer<C: Charge>(
     requires later { later_setting modules.now len j k ≡ true }
     ensures { (value : ℕ → ℕ → C.Charge.kind.V) → Rows C.Charge.means (allows modules.now) value len modules.now.count scratch.now → C.Charge.means result ≡ value j k }
 {
-    scratch[8 * j + k as usize]
+    scratch[answer_place(j, k)]
 }

@@ -6,33 +6,25 @@ use Rattle.tables.specs.declared.modules.Modules.{Modules}
 use Rattle.tables.specs.Joins.{joined_from}
 use Rattle.tables.specs.Modules.{allows}
 use Rattle.bounds.specs.Answers.{Has, Rows, SameButRow}
-use Rattle.bounds.proofs.Rows.{Row}
 use Rattle.counts.specs.Least.{least}
 use Rattle.counts.proofs.Joining.{from_same}
 use Rattle.count_table.specs.Table.{Leasts, chosen}
 
-module _ {C : Type 0} (K : Kind) (means : C → K.V) (passes : ℕ → ℕ → Bool) (value : ℕ → ℕ → K.V) (d j : ℕ) (few : j < 20)
-    (xs ys : List C) (x : C) (same : SameButRow j xs ys) (within : 160 + j < length ys) where
-  -- the row of module j was written, and then its least
-  pub rows_more : ((k : ℕ) → k < 8 → passes j k ≡ true → Has means ys (8 * j + k) (value j k)) → Rows means passes value d j xs → Rows means passes value d (j + 1) (set ys (160 + j) x)
-  rows_more row rows i from below k small p z =
+module _ {C : Type 0} (K : Kind) (means : C → K.V) (passes : ℕ → ℕ → Bool) (value : ℕ → ℕ → K.V) (d j : ℕ) (xs : List C) (x : C) where
+  -- a least is written after the rows
+  pub rows_kept : (n : ℕ) → n ≤ 20 → Rows means passes value d n xs → Rows means passes value d n (set xs (160 + j) x)
+  rows_kept n few rows i from below k small p z =
       let ne : 8 * i + k ≢ 160 + j = λ e. omega arith in
-      ap means (get_or-set_other ys (160 + j) (8 * i + k) x z ne)
-      ∙ ⊎_elim
-      (λ lower. ap means (same (8 * i + k) (inl (omega arith)) z) ∙ rows i from lower k small p z)
-      (λ here.
-      let e : j ≡ i = omega arith in
-      subst (λ n. passes n k ≡ true → means (get_or ys (8 * n + k) z) ≡ value n k) e (λ q. row k small q z) p)
-      (cases_lt i j)
+      ap means (get_or-set_other xs (160 + j) (8 * i + k) x z ne) ∙ rows i from below k small p z
 
-  pub leasts_more : means x ≡ least K (passes j) (value j) → Leasts K means passes value d j xs → Leasts K means passes value d (j + 1) (set ys (160 + j) x)
-  leasts_more is leasts i from below z = ⊎_elim
+  pub leasts_more : 160 + j < length xs → means x ≡ least K (passes j) (value j) → Leasts K means passes value d j xs → Leasts K means passes value d (j + 1) (set xs (160 + j) x)
+  leasts_more within is leasts i from below z = ⊎_elim
       (λ lower.
       let ne : 160 + i ≢ 160 + j = λ e. omega arith in
-      ap means (get_or-set_other ys (160 + j) (160 + i) x z ne ∙ same (160 + i) (inr (omega arith)) z) ∙ leasts i from lower z)
+      ap means (get_or-set_other xs (160 + j) (160 + i) x z ne) ∙ leasts i from lower z)
       (λ here.
       let e : j ≡ i = omega arith in
-      subst (λ n. means (get_or (set ys (160 + j) x) (160 + n) z) ≡ least K (passes n) (value n)) e (ap means (get_or-set_same ys (160 + j) x z within) ∙ is))
+      subst (λ n. means (get_or (set xs (160 + j) x) (160 + n) z) ≡ least K (passes n) (value n)) e (ap means (get_or-set_same xs (160 + j) x z within) ∙ is))
       (cases_lt i j)
 
 -- one module more whose counts became answers
@@ -59,6 +51,6 @@ module _ {C : Type 0} (K : Kind) (L : Lawful K) (means : C → K.V) (m : Modules
       → others ≡ K.join (K.join start (joined_from K (λ i. least K (allows m i) (f i)) d j)) (joined_from K (λ i. least K (allows m i) (f i)) (j + 1) m.count)
       → ((k : ℕ) → k < 8 → allows m j k ≡ true → (z : C) → means (get_or ys (8 * j + k) z) ≡ K.join others (means (get_or xs (8 * j + k) z)))
       → Rows means (allows m) f j m.count xs
-      → Row means (allows m j) (λ z. chosen K m f start d j) j 8 ys
+      → (k : ℕ) → k < 8 → allows m j k ≡ true → Has means ys (8 * j + k) (chosen K m f start d j k)
   row_answered others is row rows k small p z =
       row k small p z ∙ ap (K.join others) (rows j (omega arith) to_n k small p z) ∙ ap (λ x. K.join x (f j k)) is

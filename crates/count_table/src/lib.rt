@@ -3,61 +3,22 @@
 #![tactic(auto)]
 
 ghost use Rattle.std.specs.Prelude.{◌≡◌, ℕ, ◌+◌, ◌*◌, ◌<◌, ◌≤◌, true, length, take, slice_index_or};
-ghost use Rattle.bounds.specs.Answers.{Has, Rows, SameButRow};
+ghost use Rattle.bounds.specs.Answers.{Rows};
 ghost use Rattle.count_table.specs.Table.{Answered, Leasts};
+ghost use Rattle.counts.specs.Counting.{MayCount, Counts};
 ghost use Rattle.counts.specs.Floors.{floor_over, only};
-ghost use Rattle.counts.specs.Least.{least};
-ghost use Rattle.counts.specs.Tallies.{counted};
 ghost use Rattle.tables.specs.Joins.{joined_from};
 ghost use Rattle.tables.specs.Modules.{allows};
-ghost use Rattle.tables.specs.Setups.{Holds};
 
+use bounds::rows::{answer_place, change_row, change_rows};
 use charges::Charge;
-use counts::{Tally, count, lesser, or_zero, past};
+use counts::begun::Begun;
+use counts::least::least;
+use counts::past;
 use tables::modules::Modules;
 
-// Writes the count of each allowed setting of module `j`; gives the least.
-fn write_counts<C: Charge>(
-    tally: Tally,
-    modules: &Modules,
-    sheet: &[u16],
-    path: &[u8],
-    d: usize,
-    j: usize,
-    scratch: &mut [C],
-) -> C
-    requires held { Holds sheet.now path.now d }
-    requires later { (d ≤ j) × (j < modules.now.count) }
-    requires room { 192 ≤ length scratch.old }
-    ensures counts { (k : ℕ) → k < 8 → allows modules.now j k ≡ true → Has C.Charge.means scratch.new (8 * j + k) (counted C.Charge.kind modules.now sheet.now tally (take d path.now) j k) }
-    ensures others { SameButRow j scratch.old scratch.new }
-    ensures value { C.Charge.means result ≡ least C.Charge.kind (allows modules.now j) (counted C.Charge.kind modules.now sheet.now tally (take d path.now) j) }
-{
-    let mut least = None;
-    for k in 0..8u8 {
-        if modules.allows(j, k) {
-            let more = count(tally, modules, sheet, path, d, j, k);
-            scratch[8 * j + k as usize] = more;
-            least = lesser(least, more);
-        }
-    }
-    or_zero(least)
-}
-
-// Joins the same charge to the count of each allowed setting of module `j`.
-fn join_row<C: Charge>(modules: &Modules, j: usize, charge: C, scratch: &mut [C])
-    requires within { j < modules.now.count }
-    requires room { 192 ≤ length scratch.old }
-    ensures counts { (k : ℕ) → k < 8 → allows modules.now j k ≡ true → (z : C) → C.Charge.means (slice_index_or scratch.new (8 * j + k) z) ≡ C.Charge.kind.join (C.Charge.means charge) (C.Charge.means (slice_index_or scratch.old (8 * j + k) z)) }
-    ensures others { SameButRow j scratch.old scratch.new }
-{
-    for k in 0..8u8 {
-        if modules.allows(j, k) {
-            let at = 8 * j + k as usize;
-            scratch[at] = charge.joined(scratch[at]);
-        }
-    }
-}
+// Where the leasts stand.
+const LEASTS: usize = 160;
 
 // A charge joined with the least counts of the modules from `from` to before `to`.
 fn join_leasts<C: Charge>(start: C, scratch: &[C], from: usize, to: usize) -> C
@@ -66,29 +27,29 @@ fn join_leasts<C: Charge>(start: C, scratch: &[C], from: usize, to: usize) -> C
 {
     let mut sum = start;
     for i in from..to {
-        sum = sum.joined(scratch[160 + i]);
+        sum = sum.joined(scratch[LEASTS + i]);
     }
     sum
 }
 
 // Writes the counts and the least of each later module.
-fn write_table<C: Charge>(
-    tally: Tally,
-    modules: &Modules,
-    sheet: &[u16],
-    path: &[u8],
-    d: usize,
-    scratch: &mut [C],
-)
-    requires held { Holds sheet.now path.now d }
-    requires within { d ≤ modules.now.count }
+fn write_table<C: Charge, F: Fn(usize, u8) -> C>(begun: &Begun, count: F, scratch: &mut [C])
+    requires counted { MayCount (F.pre count) begun.now.len begun.now.modules.now.count }
     requires room { 192 ≤ length scratch.old }
-    ensures counts { Rows C.Charge.means (allows modules.now) (counted C.Charge.kind modules.now sheet.now tally (take d path.now)) d modules.now.count scratch.new }
-    ensures leasts { Leasts C.Charge.kind C.Charge.means (allows modules.now) (counted C.Charge.kind modules.now sheet.now tally (take d path.now)) d modules.now.count scratch.new }
+    ensures counts { (value : ℕ → ℕ → C.Charge.kind.V) → Counts C.Charge.means (F.post count) value begun.now.len begun.now.modules.now.count → Rows C.Charge.means (allows begun.now.modules.now) value begun.now.len begun.now.modules.now.count scratch.new }
+    ensures leasts { (value : ℕ → ℕ → C.Charge.kind.V) → Counts C.Charge.means (F.post count) value begun.now.len begun.now.modules.now.count → Leasts C.Charge.kind C.Charge.means (allows begun.now.modules.now) value begun.now.len begun.now.modules.now.count scratch.new }
 {
-    for j in d..modules.count() {
-        let least = write_counts(tally, modules, sheet, path, d, j, scratch);
-        scratch[160 + j] = least;
+    change_rows(
+        begun.modules,
+        begun.len,
+        |j: usize, k: u8, _: C| -> C
+            requires { F.pre count j k }
+            ensures { F.post count j k result }
+        { count(j, k) },
+        scratch,
+    );
+    for j in begun.len..begun.modules.count() {
+        scratch[LEASTS + j] = least(begun.modules, j, |j, k| scratch[answer_place(j, k)]);
     }
 }
 
@@ -102,27 +63,24 @@ fn write_answers<C: Charge>(modules: &Modules, start: C, d: usize, scratch: &mut
     let mut before = start;
     for j in d..modules.count() {
         let others = join_leasts(before, scratch, j + 1, modules.count());
-        join_row(modules, j, others, scratch);
-        before = before.joined(scratch[160 + j]);
+        change_row(modules, j, |_, _, count| others.joined(count), scratch);
+        before = before.joined(scratch[LEASTS + j]);
     }
     before
 }
 
 /// Writes the answer for each allowed setting of each later module; gives the floor.
-pub fn prepare_by<C: Charge>(
-    tally: Tally,
-    modules: &Modules,
-    sheet: &[u16],
-    path: &[u8],
-    d: usize,
-    scratch: &mut [C],
-) -> C
-    requires held { Holds sheet.now path.now d }
-    requires within { d ≤ modules.now.count }
+pub fn prepare<C: Charge, F: Fn(usize, u8) -> C>(begun: &Begun, count: F, scratch: &mut [C]) -> C
+    requires counted { MayCount (F.pre count) begun.now.len begun.now.modules.now.count }
     requires room { 192 ≤ length scratch.old }
-    ensures answers { Rows C.Charge.means (allows modules.now) (λ j k. floor_over C.Charge.kind modules.now sheet.now (only modules.now j k) (counted C.Charge.kind modules.now sheet.now tally (take d path.now)) (take d path.now)) d modules.now.count scratch.new }
-    ensures value { C.Charge.means result ≡ floor_over C.Charge.kind modules.now sheet.now (allows modules.now) (counted C.Charge.kind modules.now sheet.now tally (take d path.now)) (take d path.now) }
+    ensures answers { (value : ℕ → ℕ → C.Charge.kind.V) → Counts C.Charge.means (F.post count) value begun.now.len begun.now.modules.now.count → Rows C.Charge.means (allows begun.now.modules.now) (λ j k. floor_over C.Charge.kind begun.now.modules.now begun.now.sheet.now (only begun.now.modules.now j k) value (take begun.now.len begun.now.path.now)) begun.now.len begun.now.modules.now.count scratch.new }
+    ensures value { (value : ℕ → ℕ → C.Charge.kind.V) → Counts C.Charge.means (F.post count) value begun.now.len begun.now.modules.now.count → C.Charge.means result ≡ floor_over C.Charge.kind begun.now.modules.now begun.now.sheet.now (allows begun.now.modules.now) value (take begun.now.len begun.now.path.now) }
 {
-    write_table(tally, modules, sheet, path, d, scratch);
-    write_answers(modules, past(sheet, path, d), d, scratch)
+    write_table(begun, count, scratch);
+    write_answers(
+        begun.modules,
+        past(begun.sheet, begun.path, begun.len),
+        begun.len,
+        scratch,
+    )
 }

@@ -1,5 +1,5 @@
 -- The floors are at most the charge of each allowed setup that starts with the beginning.
-use Rattle.std.proofs.Common.{◌≡◌, ℕ, ◌+◌, ◌<◌, ◌≤◌, Bool, true, eqb, List, length, get_or, sym, ap, ◌∙◌, subst, ⊎_elim, arith}
+use Rattle.std.proofs.Common.{◌≡◌, ℕ, ◌+◌, ◌<◌, ◌≤◌, Bool, true, false, eqb, List, length, get_or, sym, ap, ◌∙◌, subst, ⊎_elim, arith}
 use Rattle.std.proofs.lemmas.Bool.{cond-true, cond-false, cases_eq, eq-eqb, ne_eqb}
 use Rattle.charges.specs.Kinds.{Kind, Lawful, AtMost}
 use Rattle.tables.specs.declared.modules.Modules.{Modules}
@@ -9,7 +9,7 @@ use Rattle.tables.specs.Setups.{forward_count, charge_of}
 use Rattle.tables.specs.Sheet.{entry_at}
 use Rattle.bounds.specs.Beginnings.{Setup, Starts}
 use Rattle.counts.specs.Least.{least}
-use Rattle.counts.specs.Floors.{past_charge, forward, least_entry, directed, both, floor_over, only, forward_floor, directed_floor, forward_with, directed_with}
+use Rattle.counts.specs.Floors.{past_charge, forward, least_entry, directed, both, counted, floor_over, only, forward_floor, directed_floor, forward_with, directed_with}
 use Rattle.counts.proofs.Joining.{at_most_self, join_at_most, joined_same, joined_longer, split_at, from_at_most, from_same, from_join, exchange_to}
 use Rattle.counts.proofs.Leasts.{least_at_most}
 use Rattle.bounds.specs.Allowing.{allows_each, allows_few}
@@ -125,3 +125,11 @@ module _ (K : Kind) (L : Lawful K) (m : Modules) (sheet : List ℕ) (p s : List 
 
   pub directed_with_sound : (j k : ℕ) → get_or s j 0 ≡ k → AtMost K (directed_with K m sheet p j k) (charge_of K sheet s m.count)
   directed_with_sound j k is = floor_sound (only m j k) (both K m sheet p) (passes_only j k is) both_counts
+
+  pub counted_sound : (directed : Bool) → AtMost K (floor_over K m sheet (allows m) (counted K m sheet directed p) p) (charge_of K sheet s m.count)
+  counted_sound false = forward_sound
+  counted_sound true = directed_sound
+
+  pub counted_with_sound : (directed : Bool) (j k : ℕ) → get_or s j 0 ≡ k → AtMost K (floor_over K m sheet (only m j k) (counted K m sheet directed p) p) (charge_of K sheet s m.count)
+  counted_with_sound false = forward_with_sound
+  counted_with_sound true = directed_with_sound

@@ -1,5 +1,5 @@
 -- The floors (lower bounds) of the bounds at a beginning p, for any kind.
-use Rattle.std.specs.Prelude.{ℕ, ◌+◌, Bool, cond, List, length, ◌==◌}
+use Rattle.std.specs.Prelude.{ℕ, ◌+◌, Bool, true, false, cond, List, length, ◌==◌}
 use Rattle.charges.specs.Kinds.{Kind}
 use Rattle.tables.specs.declared.modules.Modules.{Modules}
 use Rattle.tables.specs.Joins.{joined_from}
@@ -33,6 +33,11 @@ module _ (K : Kind) (m : Modules) (sheet : List ℕ) where
   -- both counts of a setting
   abbrev pub both : List ℕ → ℕ → ℕ → K.V
   both p j k = K.join (forward K sheet p j k) (directed j k)
+
+  -- what a bound counts of a setting: its forward count, or where `directed` is true both counts
+  abbrev pub counted : Bool → List ℕ → ℕ → ℕ → K.V
+  counted false p = forward K sheet p
+  counted true p = both p
 
   -- the past charge joined, for each later module, with the least count of a setting that passes
   abbrev pub floor_over : (ℕ → ℕ → Bool) → (ℕ → ℕ → K.V) → List ℕ → K.V

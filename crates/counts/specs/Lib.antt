@@ -1,3 +1,3 @@
 pub mod Least
 pub mod Floors
-pub mod Tallies
+pub mod Counting

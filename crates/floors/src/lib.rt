@@ -1,30 +1,33 @@
 // The past, forward and directed bounds.
 #![tactic(auto)]
 
-ghost use Rattle.counts.specs.Floors.{past_charge, forward_floor, forward_with, directed_floor, directed_with};
+ghost use Rattle.counts.specs.Floors.{past_charge, counted, floor_over, only};
 ghost use Rattle.std.proofs.Common.{sym, subst};
 ghost use Rattle.charges.specs.Kinds.{AtMost};
+ghost use Rattle.tables.specs.Modules.{allows};
 ghost use Rattle.tables.specs.Setups.{charge_of};
-ghost use Rattle.counts.proofs.Sound.{past_sound, forward_sound, directed_sound, forward_with_sound, directed_with_sound};
+ghost use Rattle.counts.proofs.Sound.{past_sound, counted_sound, counted_with_sound};
 
 use bounds::bound::Bound;
 use bounds::setting::{SettingBound, prepared_answer};
 use charges::Charge;
-use count_table::prepare_by;
-use counts::{Tally, floor_by, past};
+use count_table::prepare;
+use counts::begun::Begun;
+use counts::past;
 use tables::modules::Modules;
 
 /// The past charge: what the beginning's own modules are charged.
 #[derive(Clone, Copy)]
 pub struct Past {}
 
-/// The past charge joined, for each later module, with the least forward count of an allowed setting.
+/// The past charge joined, for each later module, with the least count of an allowed setting: of the forward counts, or
+/// with `DIRECTED` of both counts, the forward count joined with the directed count.
 #[derive(Clone, Copy)]
-pub struct Forward {}
+pub struct Counted<const DIRECTED: bool> {}
 
-/// The same with the forward count joined to the directed count.
-#[derive(Clone, Copy)]
-pub struct Directed {}
+pub type Forward = Counted<false>;
+
+pub type Directed = Counted<true>;
 
 impl<C: Charge> Bound<C> for Past {
     ghost floor = { λ _ m sheet p. C.Charge.made (past_charge C.Charge.kind sheet p) };
@@ -46,13 +49,13 @@ impl<C: Charge> Bound<C> for Past {
     }
 }
 
-impl<C: Charge> Bound<C> for Forward {
-    ghost floor = { λ _ m sheet p. C.Charge.made (forward_floor C.Charge.kind m sheet p) };
+impl<C: Charge, const DIRECTED: bool> Bound<C> for Counted<DIRECTED> {
+    ghost floor = { λ _ m sheet p. C.Charge.made (floor_over C.Charge.kind m sheet (allows m) (counted C.Charge.kind m sheet DIRECTED p) p) };
 
     ghost lawful = { λ b m sheet p s begins starts fine.
         let K = C.Charge.kind in
-        subst (λ x. AtMost K x (charge_of K sheet s m.count)) (sym (C.Charge.stands (forward_floor K m sheet p)))
-        (forward_sound K C.Charge.lawful m sheet p s begins.within starts fine) };
+        subst (λ x. AtMost K x (charge_of K sheet s m.count)) (sym (C.Charge.stands (floor_over K m sheet (allows m) (counted K m sheet DIRECTED p) p)))
+        (counted_sound K C.Charge.lawful m sheet p s begins.within starts fine DIRECTED) };
 
     fn floor_of(
         &self,
@@ -62,37 +65,27 @@ impl<C: Charge> Bound<C> for Forward {
         len: usize,
         scratch: &mut [C],
     ) -> C {
-        floor_by(Tally::Forward, modules, sheet, &path, len)
+        let begun = &Begun {
+            modules,
+            sheet,
+            path: &path,
+            len,
+        };
+        if DIRECTED {
+            begun.floor(|j, k| begun.both_counts(j, k))
+        } else {
+            begun.floor(|j, k| begun.forward_count(j, k))
+        }
     }
 }
 
-impl<C: Charge> Bound<C> for Directed {
-    ghost floor = { λ _ m sheet p. C.Charge.made (directed_floor C.Charge.kind m sheet p) };
-
-    ghost lawful = { λ b m sheet p s begins starts fine.
-        let K = C.Charge.kind in
-        subst (λ x. AtMost K x (charge_of K sheet s m.count)) (sym (C.Charge.stands (directed_floor K m sheet p)))
-        (directed_sound K C.Charge.lawful m sheet p s begins.within starts fine) };
-
-    fn floor_of(
-        &self,
-        modules: &Modules,
-        sheet: &[u16],
-        path: [u8; 20],
-        len: usize,
-        scratch: &mut [C],
-    ) -> C {
-        floor_by(Tally::Both, modules, sheet, &path, len)
-    }
-}
-
-impl<C: Charge> SettingBound<C> for Forward {
-    ghost answer = { λ _ m sheet p j k. C.Charge.made (forward_with C.Charge.kind m sheet p j k) };
+impl<C: Charge, const DIRECTED: bool> SettingBound<C> for Counted<DIRECTED> {
+    ghost answer = { λ _ m sheet p j k. C.Charge.made (floor_over C.Charge.kind m sheet (only m j k) (counted C.Charge.kind m sheet DIRECTED p) p) };
 
     ghost lawful_with = { λ b m sheet p s j k begins starts fine is.
         let K = C.Charge.kind in
-        subst (λ x. AtMost K x (charge_of K sheet s m.count)) (sym (C.Charge.stands (forward_with K m sheet p j k)))
-        (forward_with_sound K C.Charge.lawful m sheet p s begins.within starts fine j k is) };
+        subst (λ x. AtMost K x (charge_of K sheet s m.count)) (sym (C.Charge.stands (floor_over K m sheet (only m j k) (counted K m sheet DIRECTED p) p)))
+        (counted_with_sound K C.Charge.lawful m sheet p s begins.within starts fine DIRECTED j k is) };
 
     fn answer_of(
         &self,
@@ -116,40 +109,16 @@ impl<C: Charge> SettingBound<C> for Forward {
         len: usize,
         scratch: &mut [C],
     ) -> C {
-        prepare_by(Tally::Forward, modules, sheet, &path, len, scratch)
-    }
-}
-
-impl<C: Charge> SettingBound<C> for Directed {
-    ghost answer = { λ _ m sheet p j k. C.Charge.made (directed_with C.Charge.kind m sheet p j k) };
-
-    ghost lawful_with = { λ b m sheet p s j k begins starts fine is.
-        let K = C.Charge.kind in
-        subst (λ x. AtMost K x (charge_of K sheet s m.count)) (sym (C.Charge.stands (directed_with K m sheet p j k)))
-        (directed_with_sound K C.Charge.lawful m sheet p s begins.within starts fine j k is) };
-
-    fn answer_of(
-        &self,
-        modules: &Modules,
-        sheet: &[u16],
-        path: [u8; 20],
-        len: usize,
-        j: usize,
-        k: u8,
-        scratch: &mut [C],
-    ) -> C {
-        let _ = self.prepare(modules, sheet, path, len, scratch);
-        prepared_answer(modules, len, j, k, scratch)
-    }
-
-    fn prepare(
-        &self,
-        modules: &Modules,
-        sheet: &[u16],
-        path: [u8; 20],
-        len: usize,
-        scratch: &mut [C],
-    ) -> C {
-        prepare_by(Tally::Both, modules, sheet, &path, len, scratch)
+        let begun = &Begun {
+            modules,
+            sheet,
+            path: &path,
+            len,
+        };
+        if DIRECTED {
+            prepare(begun, |j, k| begun.both_counts(j, k), scratch)
+        } else {
+            prepare(begun, |j, k| begun.forward_count(j, k), scratch)
+        }
     }
 }

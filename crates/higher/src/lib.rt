@@ -13,6 +13,7 @@ ghost use Rattle.tables.specs.Setups.{charge_of};
 
 use bounds::asking::SCRATCH;
 use bounds::bound::Bound;
+use bounds::rows::{answer_place, change_rows};
 use bounds::setting::{SettingBound, prepared_answer};
 use charges::Charge;
 use tables::modules::Modules;
@@ -28,21 +29,6 @@ fn greater<C: Charge>(x: C, y: C) -> C
     ensures { C.Charge.means result ≡ greater C.Charge.kind (C.Charge.means x) (C.Charge.means y) }
 {
     if x.is_at_most(y) { y } else { x }
-}
-
-// The greater answer for each allowed setting of module `j`.
-fn take_greater<C: Charge>(modules: &Modules, j: usize, scratch: &mut [C], room: &[C])
-    requires within { j < modules.now.count }
-    requires space { (192 ≤ length scratch.old) × (192 ≤ length room.now) }
-    ensures answers { (k : ℕ) → k < 8 → allows modules.now j k ≡ true → (z : C) → C.Charge.means (slice_index_or scratch.new (8 * j + k) z) ≡ greater C.Charge.kind (C.Charge.means (slice_index_or scratch.old (8 * j + k) z)) (C.Charge.means (slice_index_or room.now (8 * j + k) z)) }
-    ensures others { SameButRow j scratch.old scratch.new }
-{
-    for k in 0..8u8 {
-        if modules.allows(j, k) {
-            let at = 8 * j + k as usize;
-            scratch[at] = greater(scratch[at], room[at]);
-        }
-    }
 }
 
 // Prepares both bounds, and takes the greater answers.
@@ -63,9 +49,12 @@ fn prepare_both<C: Charge, A: SettingBound<C>, B: SettingBound<C>>(
 {
     let one = first.prepare(modules, sheet, path, len, scratch);
     let other = second.prepare(modules, sheet, path, len, room);
-    for j in len..modules.count() {
-        take_greater(modules, j, scratch, room);
-    }
+    change_rows(
+        modules,
+        len,
+        |j, k, answer| greater(answer, room[answer_place(j, k)]),
+        scratch,
+    );
     greater(one, other)
 }
 

@@ -1,4 +1,4 @@
-use Rattle.std.proofs.Common.{◌≡◌, ℕ, ◌+◌, ◌<◌, ◌≤◌, length, get_or, ap, ◌∙◌, subst, arith}
+use Rattle.std.proofs.Common.{◌≡◌, ℕ, ◌+◌, ◌<◌, ◌≤◌, length, get_or, ap, ◌∙◌, subst, arith, rules}
 use Rattle.std.proofs.lemmas.List.{get_or_read}
 use Rattle.tables.specs.Joins.{joined_from}
 use Rattle.tables.specs.Modules.{allows}
@@ -6,7 +6,7 @@ use Rattle.bounds.specs.Answers.{Rows}
 use Rattle.count_table.specs.Table.{chosen}
 use Rattle.counts.specs.Least.{least}
 use Rattle.counts.proofs.Joining.{from_step}
-use Rattle.bounds.proofs.Rows.{rows_left, rows_changed}
+use Rattle.bounds.proofs.Changing.{rows_left, rows_changed}
 use Rattle.count_table.proofs.Tabling.{leasts_kept, others_are, row_answered}
 use Rattle.count_table.proofs.write_answers.Goals as goal
 
@@ -20,10 +20,10 @@ loop-j-preserved g c =
     let j = c.loop-j.j in
     let start = means c.args.start in
     let xs = c.loop-j.scratch in
-    let ys = c.join_row.new.scratch in
+    let ys = c.change_row.new.scratch in
     let from_d : d ≤ j = omega arith in
     let to_n : j < m.count = omega arith in
-    let same = c.join_row.ensures.others in
+    let same = c.change_row.ensures.others in
     let same_length : length ys ≡ length c.args.scratch.now = omega (arith, c.loop-j.invariant.0) in
     let within : 160 + j < length ys = omega (arith, m.few) in (
       same_length,
@@ -38,7 +38,7 @@ loop-j-preserved g c =
           let others_is = others_are K L means m f start d j from_d to_n xs ys same (means c.loop-j.before) others c.args.start inv.0 told inv.3 in
           let read = get_or_read ys (160 + j) c.index-scratch-j.result within c.index-scratch-j.is c.args.start in (
             from_step K L start mins d j from_d inv.0 c.joined-before.ensures (ap means read ∙ kept j from_d to_n c.args.start),
-            rows_changed means (allows m) j xs ys same (chosen K m f start d) d (row_answered K L means m f start d j from_d to_n xs ys same others others_is c.join_row.ensures.counts inv.2) inv.1,
+            rows_changed means (allows m) j xs ys same (chosen K m f start d) d (row_answered K L means m f start d j from_d to_n xs ys same others others_is (λ k small allowed z. let told = c.change_row.ensures.changed k small allowed z in search rules) inv.2) inv.1,
             rows_left means (allows m) j xs ys same f m.count inv.2,
             kept,
           ),

@@ -1,26 +1,25 @@
-use Rattle.std.proofs.Common.{◌≡◌, ◌+◌, ◌<◌, length, take, ◌∙◌, arith, length-set}
+use Rattle.std.proofs.Common.{◌≡◌, ◌+◌, ◌*◌, ◌<◌, length, get_or, ◌∙◌, ap, arith, rules}
 use Rattle.tables.specs.Modules.{allows}
-use Rattle.counts.specs.Tallies.{counted}
-use Rattle.count_table.proofs.Tabling.{rows_more, leasts_more}
+use Rattle.count_table.proofs.Tabling.{rows_kept, leasts_more}
 use Rattle.count_table.proofs.write_table.Goals as goal
 
+pub loop-j-init : goal.loop-j-init
+loop-j-init g c = λ f counts. (
+  λ j from below k small allowed z. counts j k from below small _ (c.change_rows.ensures.changed j from below k small allowed z),
+  λ j from below. absurd (omega arith),
+)
+
 pub loop-j-preserved : goal.loop-j-preserved
-loop-j-preserved g c =
+loop-j-preserved g c = λ f counts.
     let K = g.C.Charge.kind in
     let means = g.C.Charge.means in
-    let m = c.args.modules.now in
-    let passes = allows m in
-    let f = counted K m c.args.sheet.now c.args.tally (take c.args.d c.args.path.now) in
-    let d = c.args.d in
+    let m = c.args.begun.now.modules.now in
+    let d = c.args.begun.now.len in
     let j = c.loop-j.j in
     let xs = c.loop-j.scratch in
-    let ys = c.write_counts-least.new.scratch in
-    let x = c.write_counts-least.result in
-    let same_length : length ys ≡ length c.args.scratch.now = omega arith in
-    let few : j < 20 = omega (arith, m.few) in
-    let within : 160 + j < length ys = omega arith in
-    let told = c.write_counts-least.ensures in (
-      length-set ys (160 + j) x ∙ same_length,
-      rows_more K means passes f d j few xs ys x told.others within told.counts c.loop-j.invariant.1,
-      leasts_more K means passes f d j few xs ys x told.others within told.value c.loop-j.invariant.2,
+    let x = c.least.result in
+    let inv = c.loop-j.invariant f counts in
+    let within : 160 + j < length xs = omega (arith, m.few) in (
+      rows_kept K means (allows m) f d j xs x m.count m.few inv.0,
+      leasts_more K means (allows m) f d j xs x within (c.least.ensures (f j) (λ k small allowed r gave. let there = inv.0 j (omega arith) (omega arith) k small allowed r in search rules)) inv.1,
     )

@@ -1,18 +1,16 @@
-use Rattle.std.proofs.Common.{get_or, sym, ◌∙◌, arith}
-use Rattle.std.proofs.lemmas.Bool.{and_from}
+use Rattle.std.proofs.Common.{◌≡◌, true, false, get_or, sym, refl, ◌∙◌, rules, arith}
+use Rattle.std.proofs.lemmas.Iterator.{cases_from_all, YieldsList-from_range}
 use Rattle.tables.specs.Modules.{allows}
-use Rattle.bounds.specs.Beginnings.{allows_all}
-use Rattle.bounds.specs.Allowing.{allows_all_more, cannot_answer}
+use Rattle.bounds.proofs.Answerable.{answers_all, asked_each}
 use Rattle.bounds.proofs.asking.can_answer.Goals as goal
+use borrow.Author.Tests.{tests}
 
-pub returns-then-not-allows : goal.returns-then-not-allows
-returns-then-not-allows c =
-    sym (cannot_answer c.args.modules.now c.args.sheet.now c.args.path c.args.len c.args.room c.loop-i.i (omega arith)
-    (sym c.if-not-allows.ensures))
-
-pub loop-i-preserved : goal.loop-i-preserved
-loop-i-preserved c =
+pub returns : goal.returns
+returns c =
     let m = c.args.modules.now in
     let path = c.args.path in
-    let i = c.loop-i.i in
-    allows_all_more m path i ∙ and_from (allows_all m path i) (allows m i (get_or path i 0)) c.loop-i.invariant (sym c.if-not-allows.ensures)
+    let len = c.args.len in
+    asked_each m path len c.all.result
+    (cases_from_all _ _ _ (λ i. allows m i (get_or path i 0) ≡ true) (λ i. allows m i (get_or path i 0) ≡ false) c.all.ensures.ran
+    (YieldsList-from_range 0 len len refl (omega arith)) (λ x q k. search (rules, tests)) (λ x q k. search (rules, tests)))
+    ∙ sym (answers_all m c.args.sheet.now path len c.args.room (omega arith) (omega arith) (omega arith) (omega arith))

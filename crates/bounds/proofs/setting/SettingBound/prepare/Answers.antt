@@ -1,9 +1,8 @@
-use Rattle.std.proofs.Common.{◌≡◌, ℕ, ◌+◌, ◌*◌, ◌<◌, ◌≤◌, length, take, sym, subst, lt_of_le_of_lt, arith, length-set}
+use Rattle.std.proofs.Common.{◌≡◌, ℕ, ◌+◌, ◌*◌, ◌<◌, length, set, take, sym, ap, ◌∙◌, subst, lt_of_le_of_lt, arith}
 use Rattle.std.proofs.lemmas.Nat.{mul-le}
 use Rattle.tables.specs.Modules.{allows}
-use Rattle.bounds.specs.Answers.{Rows}
 use Rattle.bounds.proofs.Answerable.{begun}
-use Rattle.bounds.proofs.Rows.{Row, row_written, row_skipped, rows_kept, rows_and_row}
+use Rattle.bounds.proofs.Changing.{Changing, changing_more, changing_skips, rows_changed}
 use Rattle.bounds.proofs.setting.SettingBound.prepare.Goals as goal
 use Rattle.bounds.proofs.setting.SettingBound.prepare.Goals.{then-allows, else-allows}
 
@@ -16,30 +15,23 @@ whole_as_slice-answer_of g c =
 
 pub loop-k-preserved : goal.loop-k-preserved
 loop-k-preserved g c =
-    let V = g.C.Charge.kind.V in
+    let C = g.row.C.Denot in
     let means = g.C.Charge.means in
     let m = c.args.modules.now in
-    let len = c.args.len in
     let j = c.loop-j.j in
     let k = c.loop-k.k in
+    let before = c.loop-j.scratch in
     let xs = c.loop-k.scratch in
-    let value : ℕ → ℕ → V = λ i l. means (g.Self.SettingBound.answer c.args.self.now m c.args.sheet.now (take len c.args.path) i l) in
-    let inv = c.loop-k.invariant in
-    let within : 8 * j + k < length xs = omega (arith, inv.0, m.few) in
+    let gives : ℕ → C → C → Type 0 = λ i _ x. means x ≡ means (g.Self.SettingBound.answer c.args.self.now m c.args.sheet.now (take c.args.len c.args.path) j i) in
     elim c.if-allows.branch [
       | then-allows w ↦
-          let x = w.answer_of-more.result in (
-            subst (λ ys. 192 ≤ length ys) (sym w.scratch-is) (omega (arith, length-set xs (8 * j + k) x, inv.0)),
-            subst (Rows means (allows m) value len j) (sym w.scratch-is) (rows_kept means (allows m) value len j k xs x inv.1),
-            subst (Row means (allows m j) (λ z. value j) j (k + 1)) (sym w.scratch-is)
-                (row_written means (allows m j) (λ z. value j) j k xs x within (λ z. w.answer_of-more.ensures) inv.2),
-          )
-      | else-allows w ↦ (
-        subst (λ ys. 192 ≤ length ys) (sym w.scratch-is) inv.0,
-        subst (Rows means (allows m) value len j) (sym w.scratch-is) inv.1,
-        subst (Row means (allows m j) (λ z. value j) j (k + 1)) (sym w.scratch-is)
-            (row_skipped means (allows m j) (λ z. value j) j k xs (sym w.if-allows.ensures) inv.2),
-      )
+          let x = w.answer_of-more.result in
+          let within : 8 * j + k < length xs = omega (arith, m.few, (begun m c.args.sheet.now c.args.path c.args.len (length c.args.scratch.now) c.requires).roomy) in
+          changing_more (allows m j) gives j before k xs c.if-allows.scratch x (omega arith) within
+          (w.scratch-is ∙ ap (λ q. set xs q x) w.answer_place.ensures) (λ z. w.answer_of-more.ensures) c.loop-k.invariant
+      | else-allows w ↦
+          subst (Changing (allows m j) gives j before (k + 1)) (sym w.scratch-is)
+          (changing_skips (allows m j) gives j before k xs (sym w.if-allows.ensures) c.loop-k.invariant)
     ]
 
 pub loop-j-preserved : goal.loop-j-preserved
@@ -47,11 +39,7 @@ loop-j-preserved g c =
     let V = g.C.Charge.kind.V in
     let means = g.C.Charge.means in
     let m = c.args.modules.now in
-    let len = c.args.len in
-    let j = c.loop-j.j in
-    let value : ℕ → ℕ → V = λ i l. means (g.Self.SettingBound.answer c.args.self.now m c.args.sheet.now (take len c.args.path) i l) in
-    let inv = c.loop-k.invariant in
-    let whole : c.loop-k.k ≡ 8 = omega arith in (
-      inv.0,
-      rows_and_row means (allows m) value len j c.loop-k.scratch (subst (λ n. Row means (allows m j) (λ z. value j) j n c.loop-k.scratch) whole inv.2) inv.1,
-    )
+    let value : ℕ → ℕ → V = λ i l. means (g.Self.SettingBound.answer c.args.self.now m c.args.sheet.now (take c.args.len c.args.path) i l) in
+    let row = c.loop-k.invariant in
+    rows_changed means (allows m) c.loop-j.j c.loop-j.scratch c.loop-k.scratch row.others value c.args.len
+    (λ k small. row.changed k (omega arith)) c.loop-j.invariant
