@@ -5,7 +5,7 @@ ghost use Rattle.jobs.specs.Searching.{is_open, Starts, SitsOpen, ClosesOpen};
 ghost use Rattle.std.specs.Prelude.{◌≡◌, true, false, length, Some, None, MatchOption, ◌≢◌};
 
 use crate::desk::Desk;
-use crate::lent::{Lent, give_back, lend};
+use crate::lent::Lent;
 use bounds::setting::SettingBound;
 use charges::Charge;
 use jobs::refusal::Refusal;
@@ -15,13 +15,13 @@ use walks::outcome::Closed;
 use walks::ways::{Both, Walk};
 
 // Keeps a ticket where none is.
-fn put(held: &mut Option<Ticket>, ticket: Option<Ticket>)
+fn keep(held: &mut Option<Ticket>, ticket: Ticket)
     requires { held.old ≡ None }
-    ensures { held.new ≡ ticket }
+    ensures { held.new ≡ Some ticket }
 {
-    match std::mem::replace(held, ticket) {
+    match held.replace(ticket) {
         None => {}
-        Some(_) => unreachable(),
+        Some(_) => unreachable!(),
     }
 }
 
@@ -36,19 +36,10 @@ impl<C: Charge, W: Walk<C>> Desk<C, W> {
         ensures same_number { self.new.job.number ≡ self.old.job.number }
         ensures same_walks { self.new.job.walks ≡ self.old.job.walks }
     {
-        let Lent { job, ticket: other } = lend(ticket);
-        match self.job.close(other, row) {
-            Ok(_) => unreachable(),
-            Err(
-                Unclosed {
-                    refusal,
-                    ticket: other,
-                },
-            ) => {
-                give_back(job, other);
-                refusal
-            }
-        }
+        let Lent { job, ticket } = Lent::new(ticket);
+        let Unclosed { refusal, ticket } = self.job.close(ticket, row).unwrap_err();
+        Lent { job, ticket }.give_back();
+        refusal
     }
 
     /// Begins a plain walk, keeps its ticket, and gives the number on it. Refuses 2 and 10.
@@ -62,10 +53,8 @@ impl<C: Charge, W: Walk<C>> Desk<C, W> {
     {
         let ticket = self.job.start(ceiling)?;
         let number = ticket.number();
-        match self.held.replace(ticket) {
-            None => Ok(number),
-            Some(_) => unreachable(),
-        }
+        keep(&mut self.held, ticket);
+        Ok(number)
     }
 
     /// Sits with the ticket of this number: the one that is held here, or one of another job. Refuses 1, 11 and 12.
@@ -86,9 +75,9 @@ impl<C: Charge, W: Walk<C>> Desk<C, W> {
         match &self.held {
             Some(own) if own.number() == ticket => self.job.sit(sheet, own, steps, scratch),
             _ => {
-                let Lent { job, ticket: other } = lend(ticket);
-                let told = self.job.sit(sheet, &other, steps, scratch);
-                give_back(job, other);
+                let lent = Lent::new(ticket);
+                let told = self.job.sit(sheet, &lent.ticket, steps, scratch);
+                lent.give_back();
                 told
             }
         }
@@ -104,22 +93,14 @@ impl<C: Charge, W: Walk<C>> Desk<C, W> {
         ensures same_number { self.new.job.number ≡ self.old.job.number }
         ensures same_walks { self.new.job.walks ≡ self.old.job.walks }
     {
-        match self.held.take() {
-            Some(own) if own.number() == ticket => match self.job.close(own, row) {
-                Ok(closed) => Ok(closed),
-                Err(
-                    Unclosed {
-                        refusal,
-                        ticket: own,
-                    },
-                ) => {
-                    put(&mut self.held, Some(own));
-                    Err(refusal)
-                }
-            },
-            other => {
-                put(&mut self.held, other);
-                Err(self.refused(ticket, row))
+        let Some(own) = self.held.take_if(|own| own.number() == ticket) else {
+            return Err(self.refused(ticket, row));
+        };
+        match self.job.close(own, row) {
+            Ok(closed) => Ok(closed),
+            Err(Unclosed { refusal, ticket }) => {
+                keep(&mut self.held, ticket);
+                Err(refusal)
             }
         }
     }
@@ -137,9 +118,7 @@ impl<C: Charge, B: SettingBound<C>> Desk<C, Both<B>> {
     {
         let ticket = self.job.start_ahead(ceiling)?;
         let number = ticket.number();
-        match self.held.replace(ticket) {
-            None => Ok(number),
-            Some(_) => unreachable(),
-        }
+        keep(&mut self.held, ticket);
+        Ok(number)
     }
 }

@@ -13,9 +13,7 @@ impl<C: Charge, W: Walk<C>> Desk<C, W> {
         ensures { MatchOption result (self.job.current ≡ None) (λ told. MatchOption self.job.current ⊥ (λ s. Closes C.Charge.kind C.Charge.means s row.old told row.new)) }
     {
         let Desk { mut job, held } = self;
-        match held {
-            None => None,
-            Some(ticket) => Some(job.close(ticket, row).unwrap()),
-        }
+        let ticket = held?;
+        Some(job.close(ticket, row).unwrap())
     }
 }

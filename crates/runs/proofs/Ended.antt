@@ -13,7 +13,7 @@ use Rattle.tables.specs.declared.modules.Modules.{Modules}
 use Rattle.walks.specs.declared.outcome.Closed.{Closed}
 use Rattle.walks.specs.declared.state.Search.{Search}
 use Rattle.walks.specs.Outcomes.{fixed, none_left, finished, is_some, written}
-use Rattle.walks.specs.States.{state_of}
+use Rattle.walks.specs.States.{state_of, limit_of}
 use Rattle.finding.specs.Bounding.{LawfulBounding}
 use Rattle.finding.specs.Found.{Found}
 use Rattle.finding.proofs.Allowed.{setups_fit}
@@ -67,7 +67,7 @@ no_path (l ∷ up) e = absurd (false≢true e)
 module _ {C : Type 0} (K : Kind) (L : Lawful K) (means : C → K.V) (floor : Modules → List ℕ → List ℕ → C) (with-setting : Modules → List ℕ → List ℕ → ℕ → ℕ → C)
     (lawful : LawfulBounding K (bounding K means floor with-setting)) where
   at_end : (m : Modules) (sheet : List ℕ) (w : Search C) → Walked K means floor with-setting m sheet w → finished (state_of K means w) ≡ true
-      → Found K (bounding K means floor with-setting) m sheet (means w.ceiling) w.ahead (state_of K means w).best (means w.limit) w.steps
+      → Found K (bounding K means floor with-setting) m sheet (means w.ceiling) w.ahead (state_of K means w).best (means (limit_of w)) w.steps
   at_end m sheet w r e =
       subst (λ (s : State K.V). Found K (bounding K means floor with-setting) m sheet (means w.ceiling) w.ahead s.best s.limit s.steps) (sym r.at)
       (found_at_end K L (bounding K means floor with-setting) lawful m sheet (means w.ceiling) w.ahead r.some r.made
@@ -114,7 +114,7 @@ module _ {C : Type 0} (K : Kind) (L : Lawful K) (means : C → K.V) (floor : Mod
       go true e = (
         (
           r.some,
-          told_found s.modules s.sheet (means w.ceiling) w.ahead (means w.limit) (means told.charge) w.steps told.steps (fixed told.outcome).with_setup (state_of K means w).best row bytes back
+          told_found s.modules s.sheet (means w.ceiling) w.ahead (means (limit_of w)) (means told.charge) w.steps told.steps (fixed told.outcome).with_setup (state_of K means w).best row bytes back
               (at_end s.modules s.sheet w r (sym h.0.finished ∙ e)) h.0.with_setup h.0.row h.0.charge h.0.steps long same,
         ),
         tt,

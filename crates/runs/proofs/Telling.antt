@@ -1,12 +1,12 @@
 -- How a call's decision is told.
-use Rattle.std.proofs.Common.{◌≡◌, ℕ, Bool, List, Some, None, Ok, Err, Result, sym, refl, subst, MatchOption}
+use Rattle.std.proofs.Common.{◌≡◌, ℕ, Bool, List, None, sym, refl, subst, MatchOption}
 use Rattle.charges.specs.Kinds.{Kind}
 use Rattle.tables.specs.declared.modules.Modules.{Modules}
 use Rattle.walks.specs.declared.outcome.Closed.{Closed}
 use Rattle.jobs.specs.declared.refusal.Refusal.{Refusal}
 use Rattle.jobs.specs.Checks.{close_checks}
 use Rattle.jobs.specs.Searching.{is_open, ClosesOpen}
-use Rattle.jobs.specs.Refusals.{first, Decides}
+use Rattle.jobs.specs.Refusals.{first}
 use Rattle.runs.specs.declared.answer.Answer.{Answer}
 use Rattle.runs.specs.declared.answer.Answer.TheVariants as answer
 use Rattle.runs.specs.declared.call.Call.TheVariants.{Close}
@@ -17,11 +17,6 @@ use Rattle.runs.specs.Stands.{Stand, row_of, with_row}
 -- where no check fits, what is accepted is told
 pub tells_accepted : {C : Type 0} (checks : List (Refusal × Bool)) (s : Stand C) (a : Answer C) (s' : Stand C) (Accepted : Type 0) → first checks ≡ None → Accepted → Tells checks s a s' Accepted
 tells_accepted checks s a s' Accepted e h = subst (λ f. MatchOption f Accepted (λ r. (a ≡ answer.Refused r) × (s' ≡ s))) (sym e) h
-
--- the same decision, said of less
-pub decides_less : {X : Type 0} (r : Result X Refusal) (checks checks' : List (Refusal × Bool)) (Accepted : X → Type 0) (U V : Type 0) → checks ≡ checks' → Decides r checks Accepted (U × V) → Decides r checks' Accepted U
-decides_less (Ok x) checks checks' Accepted U V e h = (subst (λ cs. first cs ≡ None) e h.0, h.1)
-decides_less (Err r) checks checks' Accepted U V e h = (subst (λ cs. first cs ≡ Some r) e h.0, h.1.0)
 
 -- a close that is accepted
 pub closes_told : {C : Type 0} (K : Kind) (means : C → K.V) (floor : Modules → List ℕ → List ℕ → C) (with-setting : Modules → List ℕ → List ℕ → ℕ → ℕ → C) (number space : ℕ) (s s' : Stand C) (ticket : ℕ) (row : Row) (told : Closed C)

@@ -1,5 +1,5 @@
 -- What each call is answered and does, by the rules.
-use Rattle.std.specs.Prelude.{◌≡◌, ℕ, min, Bool, true, false, List, MatchOption, slice_set}
+use Rattle.std.specs.Prelude.{◌≡◌, ℕ, min, Bool, true, false, List, MatchOption, Ok, Err, Result, slice_set}
 use Rattle.charges.specs.Kinds.{Kind}
 use Rattle.tables.specs.declared.modules.Modules.{Modules}
 use Rattle.tables.specs.Modules.{Adds, Narrows}
@@ -18,6 +18,11 @@ use Rattle.runs.specs.declared.call.Call.TheVariants.{Add, Charge, Narrow, Start
 use Rattle.runs.specs.declared.call.BothCall.{BothCall}
 use Rattle.runs.specs.declared.call.BothCall.TheVariants.{Plain, StartAhead}
 use Rattle.runs.specs.Stands.{Stand, row_of, with_row}
+
+-- what is answered: what was told, or the refusal
+abbrev pub answered : {C : Type 0} → Result (Answer C) Refusal → Answer C
+answered (Ok told) = told
+answered (Err refusal) = answer.Refused refusal
 
 -- Under a call's checks: where none fits the call is carried out, else the first that fits is told, with nothing altered.
 abbrev pub Tells : {C : Type 0} → List (Refusal × Bool) → Stand C → Answer C → Stand C → Type 0 → Type 0

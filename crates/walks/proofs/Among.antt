@@ -6,54 +6,32 @@ use Rattle.tables.specs.Modules.{allows}
 use Rattle.tables.specs.Setups.{Holds}
 use Rattle.tables.specs.Sheet.{Whole}
 use Rattle.bounds.specs.Beginnings.{allows_all, begins, answerable}
-use Rattle.walks.specs.Trails.{Live, AmongLive, EachFew, EachTaken, EachSome, EachByte, EachAllowed, tree, base, place}
+use Rattle.walks.specs.Trails.{Live, AmongLive, tree, base, place}
 use Rattle.walks.proofs.Trails.{tree_more, times_more}
 
-module _ (m : Modules) (path : List ℕ) (live : List (List ℕ)) (d : ℕ) where
-  pub together : d ≤ m.count → EachFew m path live d → EachTaken m path live d → EachSome m path live d → EachByte m path live d → EachAllowed m path live d → AmongLive m path live d
-  together within few taken some byte allowed = record {
-    within = within;
-    few = few;
-    taken = taken;
-    lives = λ i l. record {
-      some = λ j a b. some i j (l, a, b);
-      byte = λ j a b. byte i j (l, a, b);
-      allowed = λ j k a b c h. allowed i j (k, l, a, b, c, h);
-    };
+module _ (m : Modules) (path : List ℕ) (live : List (List ℕ)) (d : ℕ) (h : AmongLive m path live d) where
+  -- each setting is allowed
+  pub allowed_at : (i : ℕ) → i < d → allows m i (get_or path i 0) ≡ true
+  allowed_at i l = (h.lives i l).allowed i (get_or path i 0) (omega arith) (let w = h.within in omega arith) (h.few i l) (h.taken i l)
+
+  all_allowed : (e : ℕ) → e ≤ d → allows_all m path e ≡ true
+  all_allowed zero l = refl
+  all_allowed (suc e) l = and_from (allows_all m path e) (allows m e (get_or path e 0)) (all_allowed e (omega arith)) (allowed_at e (omega arith))
+
+  -- a bound can answer at it
+  pub can_ask : (sheet : List ℕ) (room : ℕ) → Whole sheet → 192 ≤ room → 1 ≤ d → answerable m sheet path d room ≡ true
+  can_ask sheet room whole roomy some =
+      and_from (leb 12160 (length sheet) && leb 192 room) (begins m path d)
+      (and_from (leb 12160 (length sheet)) (leb 192 room) (le-leb 12160 (length sheet) whole) (le-leb 192 room roomy))
+      (and_from (ltb 0 d && leb d m.count) (allows_all m path d) (and_from (ltb 0 d) (leb d m.count) (lt-ltb 0 d some) (le-leb d m.count h.within)) (all_allowed d (omega arith)))
+
+  pub can_weigh : (sheet : List ℕ) → Whole sheet → length path ≡ 20 → Holds sheet path d
+  can_weigh sheet whole long = record {
+    whole = whole;
+    long = let w = h.within in omega (arith, m.few);
+    few = let w = h.within in omega (arith, m.few);
+    fit = h.few;
   }
-
-  module _ (h : AmongLive m path live d) where
-    pub each_some : EachSome m path live d
-    each_some i j l = (h.lives i l.0).some j l.1 l.2
-
-    pub each_byte : EachByte m path live d
-    each_byte i j l = (h.lives i l.0).byte j l.1 l.2
-
-    pub each_allowed : EachAllowed m path live d
-    each_allowed i j l = (h.lives i l.1).allowed j l.0 l.2 l.3 l.4 l.5
-
-    -- each setting is allowed
-    pub allowed_at : (i : ℕ) → i < d → allows m i (get_or path i 0) ≡ true
-    allowed_at i l = (h.lives i l).allowed i (get_or path i 0) (omega arith) (let w = h.within in omega arith) (h.few i l) (h.taken i l)
-
-    all_allowed : (e : ℕ) → e ≤ d → allows_all m path e ≡ true
-    all_allowed zero l = refl
-    all_allowed (suc e) l = and_from (allows_all m path e) (allows m e (get_or path e 0)) (all_allowed e (omega arith)) (allowed_at e (omega arith))
-
-    -- a bound can answer at it
-    pub can_ask : (sheet : List ℕ) (room : ℕ) → Whole sheet → 192 ≤ room → 1 ≤ d → answerable m sheet path d room ≡ true
-    can_ask sheet room whole roomy some =
-        and_from (leb 12160 (length sheet) && leb 192 room) (begins m path d)
-        (and_from (leb 12160 (length sheet)) (leb 192 room) (le-leb 12160 (length sheet) whole) (le-leb 192 room roomy))
-        (and_from (ltb 0 d && leb d m.count) (allows_all m path d) (and_from (ltb 0 d) (leb d m.count) (lt-ltb 0 d some) (le-leb d m.count h.within)) (all_allowed d (omega arith)))
-
-    pub can_weigh : (sheet : List ℕ) → Whole sheet → length path ≡ 20 → Holds sheet path d
-    can_weigh sheet whole long = record {
-      whole = whole;
-      long = let w = h.within in omega (arith, m.few);
-      few = let w = h.within in omega (arith, m.few);
-      fit = h.few;
-    }
 
 -- what is live below a beginning
 pub live_below : (m : Modules) (path : List ℕ) (live : List (List ℕ)) (i : ℕ) → AmongLive m path live (suc i) → Live m (get_or live i []) (suc i)

@@ -25,11 +25,7 @@ settings_same p q k (suc n) h =
     ∙ ap₂ (λ b r. cond b (k ∷ r) r) (h k (omega arith) (omega arith)) (settings_same p q (suc k) n (λ i a b. h i (omega arith) (omega arith)))
     ∙ sym (settings_more q k n)
 
--- where none passes, the list is empty, and the other way round
-pub settings_none : (p : ℕ → Bool) (k n : ℕ) → ((i : ℕ) → k ≤ i → i < k + n → p i ≡ false) → settings_from p k n ≡ []
-settings_none p k zero h = settings_end p k
-settings_none p k (suc n) h = settings_more p k n ∙ cond-false (p k) _ _ (h k (omega arith) (omega arith)) ∙ settings_none p (suc k) n (λ i a b. h i (omega arith) (omega arith))
-
+-- where the list is empty, none passes
 pub none_passes : (p : ℕ → Bool) (k n : ℕ) → settings_from p k n ≡ [] → (i : ℕ) → k ≤ i → i < k + n → p i ≡ false
 none_passes p k zero e i a b = absurd (omega arith)
 none_passes p k (suc n) e i a b = elim (cases_Bool (p k)) [

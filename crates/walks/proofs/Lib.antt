@@ -11,4 +11,3 @@ pub mod Domains
 pub mod Looked
 pub mod Sat
 pub mod Started
-pub mod Written

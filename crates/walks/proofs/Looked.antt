@@ -7,10 +7,11 @@ use Rattle.charges.specs.Kinds.{Kind}
 use Rattle.tables.specs.declared.modules.Modules.{Modules}
 use Rattle.walks.specs.Opening.{under, stays, Keeps, Opens}
 use Rattle.walks.specs.Settings.{has, domains_from, row_domains}
-use Rattle.walks.specs.States.{problem, by, state_of, setup_of, OnlyMoved}
+use Rattle.walks.specs.States.{problem, by, state_of, setup_of, charge_or, limit_of, OnlyMoved}
 use Rattle.walks.specs.Trails.{levels, Live}
 use Rattle.walks.specs.declared.state.Search.{Search}
-use Rattle.walks.proofs.Domains.{settings_none, strike_domains, domains_same, none_empty_domains, one_empty_domains, mask_some}
+use Rattle.walks.proofs.Domains.{strike_domains, domains_same, none_empty_domains, one_empty_domains, mask_some}
+use Rattle.walks.proofs.Masks.{settings_none}
 use Rattle.walks.proofs.Steps.{same_state, beginning_is}
 use Rattle.walks.proofs.Weighed.{short_looks}
 
@@ -72,20 +73,20 @@ module _ {C : Type 0} (K : Kind) (means : C → K.V) (s out : Search C) (sheet :
   abbrev pub path_after : List ℕ → ℕ → List Level
   path_after w d =
       let later = row_domains row s.trail.len (s.modules.count - s.trail.len) in
-      cond (under K (means s.limit) (floor w))
-      (open_to (cond s.ahead (strike (λ j k. under K (means s.limit) (answer w j k)) d later) later) (levels s.trail.path s.trail.live s.modules.count s.trail.len))
+      cond (under K (means (limit_of s)) (floor w))
+      (open_to (cond s.ahead (strike (λ j k. under K (means (limit_of s)) (answer w j k)) d later) later) (levels s.trail.path s.trail.live s.modules.count s.trail.len))
       (next (levels s.trail.path s.trail.live s.modules.count s.trail.len))
 
   pub looks : OnlyMoved s out → (one : 1 ≤ s.trail.len) (short : s.trail.len < s.modules.count) → s.trail.len ≤ length s.trail.path
       → levels out.trail.path out.trail.live s.modules.count out.trail.len
-      ≡ cond (under K (means s.limit) (floor taken))
-      (open_to (after K (means s.limit) (floor taken) (answer taken) row s.trail.len s.modules.count short s.ahead) (levels s.trail.path s.trail.live s.modules.count s.trail.len))
+      ≡ cond (under K (means (limit_of s)) (floor taken))
+      (open_to (after K (means (limit_of s)) (floor taken) (answer taken) row s.trail.len s.modules.count short s.ahead) (levels s.trail.path s.trail.live s.modules.count s.trail.len))
       (next (levels s.trail.path s.trail.live s.modules.count s.trail.len))
       → state_of K means out ≡ step (problem K s.modules sheet (means s.ceiling)) (by floor answer s.ahead) (state_of K means s)
   looks moved one short long on =
       same_state _ _ _ _ _ _ _ _
       (ap (λ n. levels out.trail.path out.trail.live n out.trail.len) counts ∙ on ∙ sym (ap₂ path_after taken_is len_is))
-      (ap means moved.limit) (ap₂ setup_of counts moved.best) (moved.steps ∙ rw add-one refl)
+      (ap means (ap₂ charge_or moved.same.ceiling moved.best)) (ap₂ setup_of counts moved.best) (moved.steps ∙ rw add-one refl)
       ∙ sym (short_looks (problem K s.modules sheet (means s.ceiling)) (by floor answer s.ahead) s.trail.path s.trail.live s.modules.count (state_of K means s) s.trail.len one short)
     where
       counts : out.modules.count ≡ s.modules.count

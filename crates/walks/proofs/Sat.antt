@@ -6,7 +6,7 @@ use Rattle.charges.specs.Kinds.{Kind}
 use Rattle.tables.specs.declared.modules.Modules.{Modules}
 use Rattle.walks.specs.declared.state.Search.{Search}
 use Rattle.walks.specs.Outcomes.{none_left, finished}
-use Rattle.walks.specs.States.{problem, by, state_of, steps_on, SameWalk}
+use Rattle.walks.specs.States.{problem, by, state_of, steps_on, SameWalk, Advances}
 
 module _ {V : Type 0} (P : Problem V) (W : Walk V) where
   -- at the end a step changes nothing
@@ -26,34 +26,33 @@ module _ {V : Type 0} (P : Problem V) (W : Walk V) where
   steps_more n s = rw add-one refl
 
 -- a sitting so far
-module _ {C : Type 0} (K : Kind) (means : C → K.V) (sheet : List ℕ) (floor : Modules → List ℕ → K.V) (answer : Modules → List ℕ → ℕ → ℕ → K.V) where
-  abbrev pub sought : Search C → Problem K.V
+module _ {C : Type 0} (K : Kind) (means : C → K.V) (sheet : List ℕ) (floor : Modules → List ℕ → List ℕ → C) (answer : Modules → List ℕ → List ℕ → ℕ → ℕ → C) where
+  abbrev sought : Search C → Problem K.V
   sought s = problem K s.modules sheet (means s.ceiling)
 
-  abbrev pub walked : Search C → Walk K.V
-  walked s = by (floor s.modules) (answer s.modules) s.ahead
+  abbrev walked : Search C → Walk K.V
+  walked s = by (λ p. means (floor s.modules sheet p)) (λ p j k. means (answer s.modules sheet p j k)) s.ahead
 
   pub record Sat (start : Search C) (made : ℕ) (now : Search C) : Type 0 where
     pub same : SameWalk start now
     pub steps : now.steps ≡ start.steps + made
-    pub state : state_of K means now ≡ steps_on (sought start) (walked start) made (state_of K means start)
+    pub state : Advances K means floor answer sheet made start now
 
   pub sat_none : (s : Search C) → Sat s 0 s
   sat_none s = record { same = record { modules = refl; ahead = refl; ceiling = refl }; steps = omega arith; state = refl }
 
-  pub sat_more : (s now after : Search C) (made : ℕ) → Sat s made now → SameWalk now after → after.steps ≡ now.steps + 1
-      → state_of K means after ≡ step (sought now) (walked now) (state_of K means now) → Sat s (made + 1) after
+  pub sat_more : (s now after : Search C) (made : ℕ) → Sat s made now → SameWalk now after → after.steps ≡ now.steps + 1 → Advances K means floor answer sheet 1 now after → Sat s (made + 1) after
   sat_more s now after made h same steps stepped = record {
     same = record { modules = same.modules ∙ h.same.modules; ahead = same.ahead ∙ h.same.ahead; ceiling = same.ceiling ∙ h.same.ceiling };
     steps = let a = h.steps in omega arith;
     state =
         stepped
-        ∙ (λ i. step (problem K (h.same.modules i) sheet (means (h.same.ceiling i))) (by (floor (h.same.modules i)) (answer (h.same.modules i)) (h.same.ahead i)) (h.state i))
+        ∙ (λ i. step (problem K (h.same.modules i) sheet (means (h.same.ceiling i))) (by (λ p. means (floor (h.same.modules i) sheet p)) (λ p j k. means (answer (h.same.modules i) sheet p j k)) (h.same.ahead i)) (h.state i))
         ∙ sym (steps_more (sought s) (walked s) made (state_of K means s));
   }
 
   -- nothing is left to do
-  pub sat_enough : (s now : Search C) (made n : ℕ) → Sat s made now → made ≤ n → finished (state_of K means now) ≡ true → state_of K means now ≡ steps_on (sought s) (walked s) n (state_of K means s)
+  pub sat_enough : (s now : Search C) (made n : ℕ) → Sat s made now → made ≤ n → finished (state_of K means now) ≡ true → Advances K means floor answer sheet n s now
   sat_enough s now made n h l e =
       h.state ∙ sym (steps_enough (sought s) (walked s) made n (state_of K means s) l (ap (λ (x : State K.V). x.path) (sym h.state) ∙ no_path (state_of K means now).path e))
     where

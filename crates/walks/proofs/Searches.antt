@@ -2,15 +2,12 @@
 use Rattle.std.proofs.Common.{◌≡◌, ℕ, zero, suc, ◌+◌, ◌-◌, ◌<◌, ◌≤◌, List, [], get_or, subst, arith}
 use Rattle.walks.specs.declared.state.Search.{Search}
 use Rattle.walks.specs.Trails.{Live, AmongLive, base, place}
-use Rattle.walks.proofs.Among.{together, place_few, tree_small, live_below}
-
-pub among : {C : Type 0} (s : Search C) → AmongLive s.modules s.trail.path s.trail.live s.trail.len
-among s = together s.modules s.trail.path s.trail.live s.trail.len s.within s.few s.taken s.some s.byte s.allowed
+use Rattle.walks.proofs.Among.{place_few, tree_small, live_below}
 
 pub steps_fit : {C : Type 0} (s : Search C) → s.steps + 1 < 18446744073709551616
 steps_fit s =
     let t = s.trail in
-    let few = place_few t.path t.len (omega (arith, s.within, s.modules.few)) s.few in
+    let few = place_few t.path t.len (omega (arith, s.among.within, s.modules.few)) s.among.few in
     omega (arith, s.counted, tree_small, few)
 
 -- a trail that stands later leaves room for a step
@@ -20,7 +17,7 @@ step_later path path' (suc d) d' steps l h m = omega arith
 
 -- what is live below the next beginning
 pub live_here : {C : Type 0} (s : Search C) → 1 ≤ s.trail.len → Live s.modules (get_or s.trail.live (s.trail.len - 1) []) s.trail.len
-live_here s one = go s.trail.len one (among s)
+live_here s one = go s.trail.len one s.among
   where
     go : (d : ℕ) → 1 ≤ d → AmongLive s.modules s.trail.path s.trail.live d → Live s.modules (get_or s.trail.live (d - 1) []) d
     go zero l h = absurd (omega arith)

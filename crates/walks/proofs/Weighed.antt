@@ -10,7 +10,7 @@ use Rattle.tables.specs.Sheet.{entry_at}
 use Rattle.walks.specs.declared.state.Search.{Search}
 use Rattle.walks.specs.Settings.{has, domains_from, row_domains}
 use Rattle.walks.specs.declared.trail.Trail.{Trail}
-use Rattle.walks.specs.States.{problem, state_of, setup_of, SameWalk, OnlyMoved}
+use Rattle.walks.specs.States.{problem, state_of, setup_of, charge_or, limit_of, SameWalk, OnlyMoved}
 use Rattle.walks.specs.Trails.{levels, GoesOn}
 use Rattle.walks.proofs.Steps.{same_state, step_weighs, step_looks, beginning_is}
 use Rattle.walks.proofs.Trails.{domains_more}
@@ -53,14 +53,14 @@ module _ {C : Type 0} (K : Kind) (means : C → K.V) (s : Search C) (sheet : Lis
   pub weighs : (path : List Level) (limit : K.V) (best : Option (List ℕ)) (steps : ℕ)
       → 1 ≤ s.trail.len → s.trail.len ≡ s.modules.count → s.trail.len ≤ length s.trail.path
       → path ≡ next (levels s.trail.path s.trail.live s.modules.count s.trail.len)
-      → limit ≡ cond (not (K.at_most (means s.limit) (charge_of K sheet s.trail.path s.modules.count))) (charge_of K sheet s.trail.path s.modules.count) (means s.limit)
-      → best ≡ cond (not (K.at_most (means s.limit) (charge_of K sheet s.trail.path s.modules.count))) (some (take s.modules.count s.trail.path)) (setup_of s.modules.count s.best)
+      → limit ≡ cond (not (K.at_most (means (limit_of s)) (charge_of K sheet s.trail.path s.modules.count))) (charge_of K sheet s.trail.path s.modules.count) (means (limit_of s))
+      → best ≡ cond (not (K.at_most (means (limit_of s)) (charge_of K sheet s.trail.path s.modules.count))) (some (take s.modules.count s.trail.path)) (setup_of s.modules.count s.best)
       → steps ≡ suc s.steps
       → Path (State K.V) (record { path = path; limit = limit; best = best; steps = steps }) (step (problem K s.modules sheet (means s.ceiling)) W (state_of K means s))
   weighs path limit best steps one full long on limit_is best-is more =
       same_state _ _ _ _ _ _ _ _ on
-      (limit_is ∙ sym (ap (λ v. cond (not (K.at_most (means s.limit) v)) v (means s.limit)) cost_is))
-      (best-is ∙ sym (ap₂ (λ v p. cond (not (K.at_most (means s.limit) v)) (some p) (setup_of n s.best)) cost_is setup_is)) more
+      (limit_is ∙ sym (ap (λ v. cond (not (K.at_most (means (limit_of s)) v)) v (means (limit_of s))) cost_is))
+      (best-is ∙ sym (ap₂ (λ v p. cond (not (K.at_most (means (limit_of s)) v)) (some p) (setup_of n s.best)) cost_is setup_is)) more
       ∙ sym (full_weighs (problem K s.modules sheet (means s.ceiling)) W s.trail.path s.trail.live n (state_of K means s) s.trail.len one full)
     where
       n : ℕ
@@ -78,8 +78,8 @@ module _ {C : Type 0} (K : Kind) (means : C → K.V) (sheet : List ℕ) (s mid o
     pub same : SameWalk s mid
     pub trail : mid.trail ≡ s.trail
     pub steps : mid.steps ≡ s.steps
-    pub limit : means mid.limit ≡ cond (not (K.at_most (means s.limit) (charge_of K sheet s.trail.path s.modules.count))) (charge_of K sheet s.trail.path s.modules.count) (means s.limit)
-    pub best : setup_of s.modules.count mid.best ≡ cond (not (K.at_most (means s.limit) (charge_of K sheet s.trail.path s.modules.count))) (some (take s.modules.count s.trail.path)) (setup_of s.modules.count s.best)
+    pub limit : means (limit_of mid) ≡ cond (not (K.at_most (means (limit_of s)) (charge_of K sheet s.trail.path s.modules.count))) (charge_of K sheet s.trail.path s.modules.count) (means (limit_of s))
+    pub best : setup_of s.modules.count mid.best ≡ cond (not (K.at_most (means (limit_of s)) (charge_of K sheet s.trail.path s.modules.count))) (some (take s.modules.count s.trail.path)) (setup_of s.modules.count s.best)
 
   pub same_through : SameWalk s mid → SameWalk mid out → SameWalk s out
   same_through h g = record { modules = g.modules ∙ h.modules; ahead = g.ahead ∙ h.ahead; ceiling = g.ceiling ∙ h.ceiling }
@@ -91,7 +91,7 @@ module _ {C : Type 0} (K : Kind) (means : C → K.V) (sheet : List ℕ) (s mid o
   weighs_on W h moved on one full long =
       weighs K means s sheet W _ _ _ _ one full long
       (on.next_one out.modules.count ∙ ap₂ (λ (t : Trail) n. next (levels t.path t.live n t.len)) h.trail counts)
-      (ap means moved.limit ∙ h.limit)
+      (ap means (ap₂ charge_or moved.same.ceiling moved.best) ∙ h.limit)
       (ap₂ setup_of counts moved.best ∙ h.best)
       (moved.steps ∙ ap (λ x. x + 1) h.steps ∙ rw add-one refl)
     where

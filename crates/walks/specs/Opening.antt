@@ -1,7 +1,12 @@
 -- What is live below a beginning that is opened.
-use Rattle.std.specs.Prelude.{◌≡◌, ℕ, ◌+◌, ◌*◌, ◌<◌, ◌≤◌, Bool, true, false, not, ◌&&◌, ◌⊎◌, List, Some, None, Option, slice_index, slice_index_or}
+use Rattle.std.specs.Prelude.{◌≡◌, ℕ, ◌+◌, ◌*◌, ◌<◌, ◌≤◌, Bool, true, false, not, ◌&&◌, ◌⊎◌, List, Some, None, Option, length, slice_index, slice_index_or}
 use Rattle.charges.specs.Kinds.{Kind}
+use Rattle.tables.specs.Sheet.{Whole}
 use Rattle.walks.specs.Settings.{has}
+
+-- memory to look at a beginning: a whole sheet, and scratch for 192 charges
+abbrev pub Enough : {C : Type 0} → List ℕ → List C → Type 0
+Enough sheet scratch = Whole sheet × (192 ≤ length scratch)
 
 -- x is below the limit
 abbrev pub under : (K : Kind) → K.V → K.V → Bool

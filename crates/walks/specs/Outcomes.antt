@@ -7,7 +7,7 @@ use Rattle.walks.specs.declared.outcome.Outcome.{Outcome}
 use Rattle.walks.specs.declared.outcome.Outcome.TheVariants.{Unfinished, UnfinishedWithSetup, Finished, NoneBelow}
 use Rattle.walks.specs.declared.outcome.Closed.{Closed}
 use Rattle.walks.specs.declared.state.Search.{Search}
-use Rattle.walks.specs.States.{state_of}
+use Rattle.walks.specs.States.{state_of, limit_of}
 
 -- What an outcome fixes. With a setup, the row takes it and the charge is its own; without, the row stays and the charge is the ceiling.
 pub record Fixed : Type 0 where
@@ -43,5 +43,5 @@ pub record Closes {C : Type 0} (K : Kind) (means : C → K.V) (s : Search C) (be
   pub finished : (fixed told.outcome).finished ≡ finished (state_of K means s)
   pub with_setup : (fixed told.outcome).with_setup ≡ is_some (state_of K means s).best
   pub row : after ≡ written (state_of K means s).best before
-  pub charge : means told.charge ≡ cond (fixed told.outcome).with_setup (means s.limit) (means s.ceiling)
+  pub charge : means told.charge ≡ cond (fixed told.outcome).with_setup (means (limit_of s)) (means s.ceiling)
   pub steps : told.steps ≡ s.steps

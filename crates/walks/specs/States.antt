@@ -8,6 +8,7 @@ use Rattle.theory.specs.Machine.{Problem, State, step}
 use Rattle.charges.specs.Kinds.{Kind}
 use Rattle.tables.specs.declared.modules.Modules.{Modules}
 use Rattle.tables.specs.Setups.{charge_of}
+use Rattle.walks.specs.declared.state.Best.{Best}
 use Rattle.walks.specs.declared.state.Search.{Search}
 use Rattle.walks.specs.Settings.{domains}
 use Rattle.walks.specs.Trails.{levels}
@@ -21,14 +22,22 @@ abbrev pub by : {V : Type 0} → (List ℕ → V) → (List ℕ → ℕ → ℕ 
 by floor answer ahead = record { floor = floor; answer = answer; ahead = ahead }
 
 -- the best setup among n modules
-abbrev pub setup_of : ℕ → std.Option (List ℕ) → Option (List ℕ)
+abbrev pub setup_of : {C : Type 0} → ℕ → std.Option (Best C) → Option (List ℕ)
 setup_of n opt.None = none
-setup_of n (opt.Some row) = some (take n row)
+setup_of n (opt.Some best) = some (take n best.setup)
+
+-- what the next setup is to be below: the charge of the best one, or else the ceiling
+abbrev pub charge_or : {C : Type 0} → C → std.Option (Best C) → C
+charge_or ceiling opt.None = ceiling
+charge_or ceiling (opt.Some best) = best.charge
+
+abbrev pub limit_of : {C : Type 0} → Search C → C
+limit_of s = charge_or s.ceiling s.best
 
 abbrev pub state_of : {C : Type 0} (K : Kind) → (C → K.V) → Search C → State K.V
 state_of K means s = record {
   path = levels s.trail.path s.trail.live s.modules.count s.trail.len;
-  limit = means s.limit;
+  limit = means (limit_of s);
   best = setup_of s.modules.count s.best;
   steps = s.steps;
 }
@@ -37,6 +46,14 @@ state_of K means s = record {
 abbrev pub steps_on : {V : Type 0} → Problem V → machine.Walk V → ℕ → State V → State V
 steps_on P W zero s = s
 steps_on P W (suc n) s = step P W (steps_on P W n s)
+
+-- so many steps on over this sheet, by these floors and answers
+abbrev pub Advances : {C : Type 0} (K : Kind) → (C → K.V) → (Modules → List ℕ → List ℕ → C) → (Modules → List ℕ → List ℕ → ℕ → ℕ → C) → List ℕ → ℕ → Search C → Search C → Type 0
+Advances K means floor answer sheet n before after =
+    state_of K means after
+    ≡ steps_on (problem K before.modules sheet (means before.ceiling))
+    (by (λ p. means (floor before.modules sheet p)) (λ p j k. means (answer before.modules sheet p j k)) before.ahead)
+    n (state_of K means before)
 
 -- the same walk: on these modules, looking ahead or not, below that ceiling
 pub record SameWalk {C : Type 0} (before after : Search C) : Type 0 where
@@ -47,6 +64,5 @@ pub record SameWalk {C : Type 0} (before after : Search C) : Type 0 where
 -- one step more, and nothing else but where it stands
 pub record OnlyMoved {C : Type 0} (before after : Search C) : Type 0 where
   pub same : SameWalk before after
-  pub limit : after.limit ≡ before.limit
   pub best : after.best ≡ before.best
   pub steps : after.steps ≡ before.steps + 1

@@ -29,29 +29,12 @@ pub record Live (m : Modules) (row : List ℕ) (d : ℕ) : Type 0 where
   pub byte : (j : ℕ) → d ≤ j → j < m.count → slice_index row j < 256
   pub allowed : (j k : ℕ) → d ≤ j → j < m.count → k < 8 → has (slice_index row j) k ≡ true → allows m j k ≡ true
 
--- Each of the first d settings is live among the modules, and so is something of each later module.
-module _ (m : Modules) (path : List ℕ) (live : List (List ℕ)) (d : ℕ) where
-  pub record AmongLive : Type 0 where
-    pub within : d ≤ m.count
-    pub few : (i : ℕ) → i < d → slice_index path i < 8
-    pub taken : (i : ℕ) → i < d → has (mask_at path live i i) (slice_index path i) ≡ true
-    pub lives : (i : ℕ) → i < d → Live m (slice_index_or live i []) i
-
-  -- the same, part by part
-  abbrev pub EachFew : Type 0
-  EachFew = (i : ℕ) → i < d → slice_index path i < 8
-
-  abbrev pub EachTaken : Type 0
-  EachTaken = (i : ℕ) → i < d → has (mask_at path live i i) (slice_index path i) ≡ true
-
-  abbrev pub EachSome : Type 0
-  EachSome = (i j : ℕ) → (i < d) × (i ≤ j) × (j < m.count) → 1 ≤ mask_at path live i j
-
-  abbrev pub EachByte : Type 0
-  EachByte = (i j : ℕ) → (i < d) × (i ≤ j) × (j < m.count) → mask_at path live i j < 256
-
-  abbrev pub EachAllowed : Type 0
-  EachAllowed = (i j : ℕ) (l : (k : ℕ) × (i < d) × (i ≤ j) × (j < m.count) × (k < 8) × (has (mask_at path live i j) k ≡ true)) → allows m j l.0 ≡ true
+-- each of the first d settings is live among the modules, and so is something of each later module
+pub record AmongLive (m : Modules) (path : List ℕ) (live : List (List ℕ)) (d : ℕ) : Type 0 where
+  pub within : d ≤ m.count
+  pub few : (i : ℕ) → i < d → slice_index path i < 8
+  pub taken : (i : ℕ) → i < d → has (mask_at path live i i) (slice_index path i) ≡ true
+  pub lives : (i : ℕ) → i < d → Live m (slice_index_or live i []) i
 
 -- how many beginnings start with one, itself among them, if d modules of eight settings can follow: 1 + 8 + 64 and so on
 unfoldable pub tree : ℕ → ℕ

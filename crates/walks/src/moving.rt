@@ -19,12 +19,7 @@ fn lowest(mask: u8, k: u8) -> Option<u8>
     requires { k ≤ 8 }
     ensures { MatchOption result (settings_from (has mask) k (8 - k) ≡ []) (λ s. (k ≤ s) × (s < 8) × (has mask s ≡ true) × (settings_from (has mask) k (8 - k) ≡ s ∷ settings_from (has mask) (suc s) (7 - s))) }
 {
-    for s in k..8 {
-        if has(mask, s) {
-            return Some(s);
-        }
-    }
-    None
+    (k..8).find(|s| has(mask, *s))
 }
 
 impl Trail {

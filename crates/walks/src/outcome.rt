@@ -4,13 +4,13 @@
 #[derive(Clone, Copy, Debug, PartialEq, Eq)]
 pub enum Outcome {
     /// Unfinished, without a setup: the charge is the ceiling, and the row is unchanged.
-    Unfinished,
+    Unfinished = 0,
     /// Unfinished, with the best setup so far and its charge.
-    UnfinishedWithSetup,
+    UnfinishedWithSetup = 1,
     /// Finished, with a setup and its charge.
-    Finished,
+    Finished = 2,
     /// Finished, and no setup is below the ceiling: the charge is the ceiling, and the row is unchanged.
-    NoneBelow,
+    NoneBelow = 3,
 }
 
 /// What a close tells.

@@ -1,9 +1,8 @@
 // Sitting: some steps of a walk.
-ghost use Rattle.std.specs.Prelude.{◌≡◌, ℕ, ◌+◌, ◌<◌, ◌≤◌, length};
+ghost use Rattle.std.specs.Prelude.{◌≡◌, ◌+◌, ◌≤◌};
+ghost use Rattle.walks.specs.Opening.{Enough};
 ghost use Rattle.walks.specs.Outcomes.{finished};
-ghost use Rattle.walks.specs.States.{problem, by, state_of, steps_on, SameWalk};
-ghost use Rattle.tables.specs.Sheet.{Whole};
-ghost use Rattle.theory.specs.Machine.{step};
+ghost use Rattle.walks.specs.States.{state_of, SameWalk, Advances};
 
 use crate::state::Search;
 use crate::ways::Walk;
@@ -19,14 +18,11 @@ impl<C: Charge> Search<C> {
 
     // Looks at the next beginning.
     fn step<W: Walk<C>>(&mut self, walks: &W, sheet: &[u16], scratch: &mut [C])
-        requires memory { (Whole sheet.now) × (192 ≤ length scratch.old) }
+        requires memory { Enough sheet.now scratch.old }
         requires left { 1 ≤ self.old.trail.len }
         ensures same { SameWalk self.old self.new }
         ensures steps { self.new.steps ≡ self.old.steps + 1 }
-        ensures stepped { state_of C.Charge.kind C.Charge.means self.new
-            ≡ step (problem C.Charge.kind self.old.modules sheet.now (C.Charge.means self.old.ceiling))
-            (by (λ p. C.Charge.means (W.Walk.floor walks.now self.old.modules sheet.now p)) (λ p j k. C.Charge.means (W.Walk.answer walks.now self.old.modules sheet.now p j k)) self.old.ahead)
-            (state_of C.Charge.kind C.Charge.means self.old) }
+        ensures stepped { Advances C.Charge.kind C.Charge.means (W.Walk.floor walks.now) (W.Walk.answer walks.now) sheet.now 1 self.old self.new }
     {
         if self.trail.len == self.modules.count() {
             self.weigh_setup(sheet);
@@ -43,13 +39,10 @@ impl<C: Charge> Search<C> {
         steps: u32,
         scratch: &mut [C],
     ) -> u32
-        requires { (Whole sheet.now) × (192 ≤ length scratch.old) }
+        requires { Enough sheet.now scratch.old }
         ensures same { SameWalk self.old self.new }
         ensures made { self.new.steps ≡ self.old.steps + result }
-        ensures stepped { state_of C.Charge.kind C.Charge.means self.new
-            ≡ steps_on (problem C.Charge.kind self.old.modules sheet.now (C.Charge.means self.old.ceiling))
-            (by (λ p. C.Charge.means (W.Walk.floor walks.now self.old.modules sheet.now p)) (λ p j k. C.Charge.means (W.Walk.answer walks.now self.old.modules sheet.now p j k)) self.old.ahead)
-            steps (state_of C.Charge.kind C.Charge.means self.old) }
+        ensures stepped { Advances C.Charge.kind C.Charge.means (W.Walk.floor walks.now) (W.Walk.answer walks.now) sheet.now steps self.old self.new }
     {
         for made in 0..steps {
             if self.is_finished() {

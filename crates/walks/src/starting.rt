@@ -40,7 +40,6 @@ impl<C: Charge> Search<C> {
             ahead,
             ceiling,
             trail,
-            limit: ceiling,
             best: None,
             steps: 0,
         }

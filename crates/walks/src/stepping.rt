@@ -1,11 +1,12 @@
 // One step of a walk.
-ghost use Rattle.std.specs.Prelude.{◌≡◌, ℕ, ◌+◌, ◌<◌, ◌≤◌, length};
-ghost use Rattle.walks.specs.States.{problem, by, state_of, SameWalk, OnlyMoved};
+ghost use Rattle.std.specs.Prelude.{◌≡◌, ◌+◌, ◌<◌, ◌≤◌};
+ghost use Rattle.walks.specs.States.{problem, state_of, SameWalk, OnlyMoved, Advances};
+ghost use Rattle.walks.specs.Opening.{Enough};
 ghost use Rattle.walks.specs.Trails.{GoesOn, GoesDown, Live};
 ghost use Rattle.tables.specs.Sheet.{Whole};
 ghost use Rattle.theory.specs.Machine.{Walk, step};
 
-use crate::state::Search;
+use crate::state::{Best, Search};
 use crate::ways::Walk;
 use charges::Charge;
 use tables::weighing::weigh;
@@ -41,23 +42,20 @@ impl<C: Charge> Search<C> {
             ≡ step (problem C.Charge.kind self.old.modules sheet.now (C.Charge.means self.old.ceiling)) W (state_of C.Charge.kind C.Charge.means self.old) }
     {
         let charge = weigh(sheet, &self.trail.path, self.trail.len);
-        if !self.limit.is_at_most(charge) {
-            self.limit = charge;
-            self.best = Some(self.trail.path);
+        if !self.limit().is_at_most(charge) {
+            let setup = self.trail.path;
+            self.best = Some(Best { setup, charge });
         }
         self.go_on();
     }
 
     // Looks at the beginning that is next and is no setup yet.
     pub(crate) fn look<W: Walk<C>>(&mut self, walks: &W, sheet: &[u16], scratch: &mut [C])
-        requires memory { (Whole sheet.now) × (192 ≤ length scratch.old) }
+        requires memory { Enough sheet.now scratch.old }
         requires within { (1 ≤ self.old.trail.len) × (self.old.trail.len < self.old.modules.count) }
         ensures same { SameWalk self.old self.new }
         ensures steps { self.new.steps ≡ self.old.steps + 1 }
-        ensures looked { state_of C.Charge.kind C.Charge.means self.new
-            ≡ step (problem C.Charge.kind self.old.modules sheet.now (C.Charge.means self.old.ceiling))
-            (by (λ p. C.Charge.means (W.Walk.floor walks.now self.old.modules sheet.now p)) (λ p j k. C.Charge.means (W.Walk.answer walks.now self.old.modules sheet.now p j k)) self.old.ahead)
-            (state_of C.Charge.kind C.Charge.means self.old) }
+        ensures looked { Advances C.Charge.kind C.Charge.means (W.Walk.floor walks.now) (W.Walk.answer walks.now) sheet.now 1 self.old self.new }
     {
         let row = self.trail.live[self.trail.len - 1];
         match walks.opened(
@@ -66,7 +64,7 @@ impl<C: Charge> Search<C> {
             self.trail.path,
             self.trail.len,
             self.ahead,
-            self.limit,
+            self.limit(),
             row,
             scratch,
         ) {

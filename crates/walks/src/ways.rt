@@ -120,11 +120,7 @@ impl<C: Charge, B: Bound<C>> Walk<C> for Plain<B> {
         row: [u8; 20],
         scratch: &mut [C],
     ) -> Option<[u8; 20]> {
-        if is_under(&self.bound, modules, sheet, path, len, limit, scratch) {
-            Some(row)
-        } else {
-            None
-        }
+        is_under(&self.bound, modules, sheet, path, len, limit, scratch).then_some(row)
     }
 }
 
@@ -161,11 +157,7 @@ impl<C: Charge, B: SettingBound<C>> Walk<C> for Both<B> {
         scratch: &mut [C],
     ) -> Option<[u8; 20]> {
         if !ahead {
-            if is_under(&self.bound, modules, sheet, path, len, limit, scratch) {
-                Some(row)
-            } else {
-                None
-            }
+            is_under(&self.bound, modules, sheet, path, len, limit, scratch).then_some(row)
         } else if limit.is_at_most(self.bound.prepare(modules, sheet, path, len, scratch)) {
             None
         } else {

@@ -1,20 +1,14 @@
-use Rattle.std.proofs.Common.{◌≡◌, ◌-◌, sym, ap, ◌∙◌, arith}
-use Rattle.walks.specs.Settings.{has, settings_from}
-use Rattle.walks.proofs.Masks.{settings_end, settings_skip, settings_take}
+use Rattle.std.proofs.Common.{◌≡◌, true, false, rules, tests}
+use Rattle.std.proofs.lemmas.Iterator.{first_from_Range, serves_from_Range}
+use Rattle.walks.specs.Settings.{has}
+use Rattle.walks.proofs.Masks.{settings_first}
 use Rattle.walks.proofs.moving.lowest.Goals as goal
 
-pub returns-then-has : goal.returns-then-has
-returns-then-has c = (
-  c.loop-s.auto.s,
-  c.loop-s-test.true,
-  sym c.if-has.ensures,
-  c.loop-s.invariant ∙ settings_take (has c.args.mask) c.loop-s.s 7 (omega (arith, c.loop-s-test.true)) (sym c.if-has.ensures),
-)
-
-pub loop-s-preserved : goal.loop-s-preserved
-loop-s-preserved c = c.loop-s.invariant ∙ settings_skip (has c.args.mask) c.loop-s.s 8 c.loop-s-test.true (sym c.if-has.ensures)
+pub find-requires : goal.find-requires
+find-requires c = record { can = tt; finite = tt; callable = serves_from_Range (λ x q k. search (rules, tests)) (λ x low high. search rules) }
 
 pub returns : goal.returns
 returns c =
-    let e : 8 - c.loop-s.s ≡ 0 = omega (arith, c.loop-s-test.false) in
-    c.loop-s.invariant ∙ ap (settings_from (has c.args.mask) c.loop-s.s) e ∙ settings_end (has c.args.mask) c.loop-s.s
+    settings_first (has c.args.mask) c.args.k _
+    (first_from_Range _ _ _ _ (λ s. has c.args.mask s ≡ true) (λ s. has c.args.mask s ≡ false) c.find.ensures.ran (λ x q k. search rules) (λ x q k. (search rules, search rules)))
+    c.requires

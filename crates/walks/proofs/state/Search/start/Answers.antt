@@ -1,5 +1,4 @@
 use Rattle.std.proofs.Common.{refl}
-use Rattle.walks.proofs.Among.{each_some, each_byte, each_allowed}
 use Rattle.walks.proofs.Started.{first_live, first_path}
 use Rattle.walks.proofs.Steps.{same_state}
 use Rattle.walks.proofs.state.Search.start.Goals as goal
@@ -8,12 +7,7 @@ pub invariant_of-result : goal.invariant_of-result
 invariant_of-result g c =
     let h = first_live c.args.modules.now _ c.masks.ensures _ _ _ _ _ c.requires c.down.ensures in
     record {
-      within = h.within;
-      few = h.few;
-      taken = h.taken;
-      some = each_some _ _ _ _ h;
-      byte = each_byte _ _ _ _ h;
-      allowed = each_allowed _ _ _ _ h;
+      among = h;
       counted = c.down.ensures.later;
     }
 

@@ -30,6 +30,6 @@ returns g c =
     let long : length s.trail.path ≡ 20 = search rules in
     let cost : means c.weigh-charge.result ≡ charge_of K sheet s.trail.path s.modules.count =
     c.weigh-charge.ensures ∙ ap (charge_of K sheet s.trail.path) c.requires.1.1 in
-    let r = weighed_and_on K means sheet s _ out c.go_on.ensures.moved c.go_on.ensures.goes_on c.requires.1.0 c.requires.1.1 (omega (arith, s.within, s.modules.few, long))
+    let r = weighed_and_on K means sheet s _ out c.go_on.ensures.moved c.go_on.ensures.goes_on c.requires.1.0 c.requires.1.1 (omega (arith, s.among.within, s.modules.few, long))
     (grind (arith, cost)) in
     record { same = r.0; steps = r.1; weighed = r.2 }
