@@ -1,5 +1,5 @@
 -- A row that is filled word by word.
-use Rattle.std.proofs.Common.{◌≡◌, ℕ, ◌+◌, ◌<◌, ◌≤◌, List, [], ◌∷◌, ◌++◌, length, get_or, take, drop, set, sym, ap, ◌∙◌, subst, ⊎_elim, append_assoc, arith, length-set}
+use Rattle.std.proofs.Common.{◌≡◌, ℕ, ◌+◌, ◌<◌, ◌≤◌, List, [], ◌∷◌, ◌++◌, length, get_or, take, drop, set, sym, refl, ap, ◌∙◌, subst, ⊎_elim, append_assoc, arith, length-set}
 use Rattle.std.proofs.lemmas.List.{drop_more, drop_all, take_more_set, drop-set-lt, take-append-drop}
 use Rattle.std.proofs.lemmas.Bool.{cases_lt}
 use Rattle.words.specs.Words.{Word}
@@ -14,6 +14,10 @@ pub record Sofar (ws rest : List Word) (row : List ℕ) (n : ℕ) : Type 0 where
   pub zeros : Fills [] (drop n row)
   pub front : (tail : List ℕ) → Fills rest tail → Fills ws (take n row ++ tail)
   pub back : (r : List ℕ) → Fills ws r → Fills rest (drop n r)
+
+-- words with no row and number of words fill no row
+pub no_row : (ws : List Word) → ((p : List ℕ × ℕ) → Row ws p.0 × (length ws ≡ p.1) → ⊥) → (row : List ℕ) → Row ws row → ⊥
+no_row ws none row h = none (row, length ws) (h, refl)
 
 -- the words of a row are twenty at most
 fill_fit : (ws : List Word) (row : List ℕ) → Fills ws row → length ws ≤ length row

@@ -8,7 +8,7 @@ use crate::numbers::decimal;
 use crate::splitting::next_word;
 
 /// A value that a word can say; `said w x` holds where the word w says x.
-// Stays: std's `FromStr` reads `+5` as a number, which is none here, and does not promise which words it refuses.
+// Stays: std's `FromStr` reads `+5` as a number, which is none here.
 pub trait FromWord: Sized {
     ghost said: { List ℕ → Self → Type 0 };
 
