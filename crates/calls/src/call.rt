@@ -71,6 +71,7 @@ impl BoundName {
 /// A call, with its arguments. A row and a path have twenty bytes: the settings that were written, and then zeros.
 /// The `len` of a path is how many were written. A ceiling has as many numbers as were written; whether it is a charge of the
 /// job's kind is for the job to say. A walk is named by the job's number where no ticket was written.
+// Stays: a row is twenty bytes, and a path these and a length, since no call has a heap and a job is handed them as they are.
 #[derive(Debug, Clone, Copy, PartialEq)]
 pub enum Call {
     Open {

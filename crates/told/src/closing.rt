@@ -6,6 +6,7 @@ use crate::figure::Figure;
 use std::fmt;
 
 /// A setup as it is printed: the first `len` of twenty settings.
+// Stays: twenty bytes and a length, since what an answer holds has no heap.
 #[derive(Clone, Copy)]
 pub struct Setup {
     pub settings: [u8; 20],

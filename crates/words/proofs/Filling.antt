@@ -33,7 +33,7 @@ module _ {all rest : List Word} {w : Word} {more : List Word} {row : List ℕ} {
   left r h = subst (λ l. Fills l (drop n r)) next (old.back r h)
 
   -- one number more has its place
-  pub room : n < 20
+  room : n < 20
   room = omega (arith, old.few, old.count, ap length next)
 
   split : (r : List ℕ) → Fills all r → n < length r → Number 255 w (get_or r n 0) × Fills more (drop (n + 1) r)

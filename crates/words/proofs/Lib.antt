@@ -1,4 +1,3 @@
 pub mod Spaces
-pub mod Cuts
 pub mod Reading
 pub mod Filling

@@ -30,6 +30,7 @@ pub no_word : (bs : List ℕ) → length bs ≡ 0 → words_of bs ≡ []
 no_word [] e = refl
 no_word (x ∷ xs) e = absurd (omega arith)
 
+-- a text has no more words than bytes
 kept_fit : (w : Word) (ws : List Word) → length (kept w ws) ≤ length w + length ws
 kept_fit [] ws = omega arith
 kept_fit (b ∷ w) ws = omega arith
@@ -45,7 +46,6 @@ after_fit w (b ∷ bs) =
     (omega (arith, kept_fit w (words_after [] bs), after_fit [] bs))
     (omega (arith, after_fit (w ++ (b ∷ [])) bs, length-append w (b ∷ [])))
 
--- a text has no more words than bytes
 pub words_fit : (bs : List ℕ) → length (words_of bs) ≤ length bs
 words_fit bs = omega (arith, after_fit [] bs)
 

@@ -9,10 +9,8 @@ use Rattle.told.proofs.closing.SetupDisplay.fmt.Goals as goal
 
 pub loop-setting-preserved : goal.loop-setting-preserved
 loop-setting-preserved g c = λ plain.
-    let old = c.loop-setting.invariant plain in
-    let took = g.W.Write.write_str_gives in
     let more = ap (λ l. after_spaces (map decimal l)) (map-append (λ x. x.now) c.loop-setting.yielded (c.in-Some.setting ∷ [])) ∙ one_more _ c.in-Some.setting.now in
-    has_written_of_eq took _ _ _ _ (sym more) (has_written_append took _ _ c.loop-setting.f _ _ old (c.in_ok-write.ensures.writes old.plain refl))
+    has_written_of_eq g.W.Write.write_str_gives _ _ _ _ (sym more) (has_written_append g.W.Write.write_str_gives _ _ c.loop-setting.f _ _ (c.loop-setting.invariant plain) (c.in_ok-write.ensures.writes (c.loop-setting.invariant plain).plain refl))
 
 pub returns-clause-writes : goal.returns-clause-writes
 returns-clause-writes g c = λ plain ok.
