@@ -82,15 +82,17 @@ fn lines_are_told_apart(rt: HostRuntime) {
         );
     }
     for line in NO_CALLS {
-        assert!(rt;
-            read_line(Vocabulary::Building, line) == Line::NoCall,
+        assert_eq!(rt;
+            read_line(Vocabulary::Building, line),
+            Line::NoCall,
             "{}",
             line
         );
     }
     for line in SKIPPED {
-        assert!(rt;
-            read_line(Vocabulary::Building, line) == Line::Skipped,
+        assert_eq!(rt;
+            read_line(Vocabulary::Building, line),
+            Line::Skipped,
             "{}",
             line
         );
@@ -240,11 +242,7 @@ fn reports_are_written(rt: HostRuntime) -> Result<(), Fail> {
         ("what?", Answer::NotACall, "what? -> not a call"),
     ];
     for (line, answer, text) in table {
-        assert!(rt;
-            report(rt.alloc(), line, answer)?.as_str() == text,
-            "{}",
-            text
-        );
+        assert_eq!(rt; report(rt.alloc(), line, answer)?.as_str(), text);
     }
     Ok(())
 }

@@ -68,8 +68,9 @@ fn calls_are_told_apart(rt: HostRuntime) {
         );
     }
     for line in NO_CALLS {
-        assert!(rt;
-            read_line(Vocabulary::Walking, line) == Line::NoCall,
+        assert_eq!(rt;
+            read_line(Vocabulary::Walking, line),
+            Line::NoCall,
             "{}",
             line
         );
@@ -189,11 +190,7 @@ fn answers_are_reported(rt: HostRuntime) -> Result<(), Fail> {
         ),
     ];
     for (line, answer, text) in table {
-        assert!(rt;
-            report(rt.alloc(), line, answer)?.as_str() == text,
-            "{}",
-            text
-        );
+        assert_eq!(rt; report(rt.alloc(), line, answer)?.as_str(), text);
     }
     Ok(())
 }
