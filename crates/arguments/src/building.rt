@@ -13,11 +13,7 @@ pub fn read_add(text: &str) -> Option<Call>
     ensures { Exactly (Says (codes "add" ∷ words_of text.now)) result }
 {
     let (settings, rest) = take::<u8>(text)?;
-    if is_blank(rest) {
-        Some(Call::Add { settings })
-    } else {
-        None
-    }
+    is_blank(rest).then_some(Call::Add { settings })
 }
 
 /// `charge I K J L CLASH`, from the text after its first word.
@@ -27,11 +23,7 @@ pub fn read_charge(text: &str) -> Option<Call>
     let (i, k, rest) = take_two::<u8>(text)?;
     let (j, l, rest) = take_two::<u8>(rest)?;
     let (clash, rest) = take::<u16>(rest)?;
-    if is_blank(rest) {
-        Some(Call::Charge { i, k, j, l, clash })
-    } else {
-        None
-    }
+    is_blank(rest).then_some(Call::Charge { i, k, j, l, clash })
 }
 
 /// `narrow I MASK`, from the text after its first word.
@@ -39,9 +31,5 @@ pub fn read_narrow(text: &str) -> Option<Call>
     ensures { Exactly (Says (codes "narrow" ∷ words_of text.now)) result }
 {
     let (i, mask, rest) = take_two::<u8>(text)?;
-    if is_blank(rest) {
-        Some(Call::Narrow { i, mask })
-    } else {
-        None
-    }
+    is_blank(rest).then_some(Call::Narrow { i, mask })
 }

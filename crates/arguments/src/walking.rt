@@ -15,33 +15,24 @@ fn read_ceiling(text: &str) -> Option<Figure>
 {
     let (first, rest) = next_word(text)?;
     if is_blank(rest) {
-        let number = u32::from_word(first)?;
-        return Some(Figure::One(number));
+        return u32::from_word(first).map(Figure::One);
     }
     let forbidden = u16::from_word(first)?;
     let (soft, rest) = take::<u32>(rest)?;
-    if is_blank(rest) {
-        Some(Figure::Two(forbidden, soft))
-    } else {
-        None
-    }
+    is_blank(rest).then_some(Figure::Two(forbidden, soft))
 }
 
 // The ticket that all words of a text name, if there are words.
 fn read_ticket(text: &str) -> Option<Option<u32>>
     ensures { Exactly (Ticket (words_of text.now)) result }
 {
-    let Some((word, rest)) = next_word(text) else {
-        return Some(None);
-    };
-    if word != "ticket" {
-        return None;
-    }
-    let (number, rest) = take::<u32>(rest)?;
-    if is_blank(rest) {
-        Some(Some(number))
-    } else {
-        None
+    match next_word(text) {
+        None => Some(None),
+        Some(("ticket", rest)) => {
+            let (number, rest) = take::<u32>(rest)?;
+            is_blank(rest).then_some(Some(number))
+        }
+        Some(_) => None,
     }
 }
 

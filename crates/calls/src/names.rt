@@ -5,6 +5,7 @@ ghost use Rattle.calls.specs.Names.{kind_word, walks_word, bound_word};
 use crate::call::{KindName, SimpleBound, Walks};
 use words::values::FromWord;
 
+// Stays: a match in each impl, since a table of words and values, and a search of it, would be longer.
 impl FromWord for KindName {
     ghost said = { λ w x. w ≡ kind_word x };
 

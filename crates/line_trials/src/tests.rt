@@ -1,4 +1,6 @@
 // Lines that are calls, that are none and that are skipped; what calls are read as, and what is reported.
+ghost use Rattle.std.specs.Prelude.{◌≤◌, length};
+
 use answers::answer::Answer;
 use answers::report::report;
 use calls::call::{BoundName, Call, KindName, SimpleBound, Vocabulary, Walks};
@@ -80,110 +82,145 @@ fn lines_are_told_apart(rt: HostRuntime) {
         );
     }
     for line in NO_CALLS {
-        assert!(rt;
-            matches!(read_line(Vocabulary::Building, line), Line::NoCall),
+        assert_eq!(rt;
+            read_line(Vocabulary::Building, line),
+            Line::NoCall,
             "{}",
             line
         );
     }
     for line in SKIPPED {
-        assert!(rt;
-            matches!(read_line(Vocabulary::Building, line), Line::Skipped),
+        assert_eq!(rt;
+            read_line(Vocabulary::Building, line),
+            Line::Skipped,
             "{}",
             line
         );
     }
 }
 
-fn row_of(line: &str) -> Option<[u8; 20]> {
-    match read_call(Vocabulary::Building, line) {
-        Some(Call::Weigh { row }) => Some(row),
-        Some(Call::WhatIf { i: 1, k: 2, row }) => Some(row),
-        _ => None,
-    }
+// The row of these settings, and then zeros.
+pub fn row_of(settings: &[u8]) -> [u8; 20]
+    requires { length settings.now ≤ 20 }
+{
+    let mut row = [0; 20];
+    row[..settings.len()].copy_from_slice(settings);
+    row
 }
 
-fn path_of(line: &str) -> Option<([u8; 20], u8)> {
-    match read_call(Vocabulary::Building, line) {
-        Some(Call::Floor { path, len }) => Some((path, len)),
-        Some(
+const ALL_TWENTY: [u8; 20] = [
+    1, 2, 3, 4, 5, 6, 7, 8, 9, 10, 11, 12, 13, 14, 15, 16, 17, 18, 19, 20,
+];
+
+#[test]
+fn paths_have_their_length(rt: HostRuntime) {
+    let table = [
+        (
+            "floor",
+            Call::Floor {
+                path: row_of(&[]),
+                len: 0,
+            },
+        ),
+        (
+            "floor 7 8 0",
+            Call::Floor {
+                path: row_of(&[7, 8, 0]),
+                len: 3,
+            },
+        ),
+        (
+            "floor 1 2 3 4 5 6 7 8 9 10 11 12 13 14 15 16 17 18 19 20",
+            Call::Floor {
+                path: ALL_TWENTY,
+                len: 20,
+            },
+        ),
+        (
+            "floor-with 1 2",
             Call::FloorWith {
                 j: 1,
                 k: 2,
-                path,
-                len,
+                path: row_of(&[]),
+                len: 0,
             },
-        ) => Some((path, len)),
-        _ => None,
+        ),
+        (
+            "floor-with 1 2 9",
+            Call::FloorWith {
+                j: 1,
+                k: 2,
+                path: row_of(&[9]),
+                len: 1,
+            },
+        ),
+        (
+            "floor-with 1 2 1 2 3 4 5 6 7 8 9 10 11 12 13 14 15 16 17 18 19 20",
+            Call::FloorWith {
+                j: 1,
+                k: 2,
+                path: ALL_TWENTY,
+                len: 20,
+            },
+        ),
+    ];
+    for (line, call) in table {
+        assert_eq!(rt;
+            read_call(Vocabulary::Building, line),
+            Some(call),
+            "{}",
+            line
+        );
     }
 }
 
 #[test]
-fn paths_have_their_length(rt: HostRuntime) -> Result<(), Fail> {
-    let (path, len) = path_of("floor").ok_or("no path")?;
-    assert!(rt; len == 0 && path[0] == 0 && path[19] == 0);
-    let (path, len) = path_of("floor 7 8 0").ok_or("no path")?;
-    assert!(rt; len == 3 && path[0] == 7 && path[1] == 8 && path[2] == 0 && path[19] == 0);
-    let (path, len) = path_of("floor 1 2 3 4 5 6 7 8 9 10 11 12 13 14 15 16 17 18 19 20").ok_or(
-        "no path",
-    )?;
-    assert!(rt; len == 20 && path[0] == 1 && path[19] == 20);
-    let (path, len) = path_of("floor-with 1 2").ok_or("no path")?;
-    assert!(rt; len == 0 && path[0] == 0 && path[19] == 0);
-    let (path, len) = path_of("floor-with 1 2 9").ok_or("no path")?;
-    assert!(rt; len == 1 && path[0] == 9 && path[1] == 0 && path[19] == 0);
-    let (path, len) = path_of(
-        "floor-with 1 2 1 2 3 4 5 6 7 8 9 10 11 12 13 14 15 16 17 18 19 20",
-    ).ok_or("no path")?;
-    assert!(rt; len == 20 && path[0] == 1 && path[19] == 20);
-    Ok(())
-}
-
-#[test]
-fn calls_have_their_arguments(rt: HostRuntime) -> Result<(), Fail> {
-    assert!(rt;
-        matches!(
-            read_call(
-                Vocabulary::Building,
-                "open 7 count both higher forward directed"
-            ),
-            Some(Call::Open {
+fn calls_have_their_arguments(rt: HostRuntime) {
+    let table = [
+        (
+            "open 7 count both higher forward directed",
+            Call::Open {
                 number: 7,
                 kind: KindName::Count,
                 walks: Walks::Both,
                 bound: BoundName::Higher(SimpleBound::Forward, SimpleBound::Directed),
-            })
-        )
-    );
-    assert!(rt;
-        matches!(
-            read_call(Vocabulary::Building, " add  003 "),
-            Some(Call::Add { settings: 3 })
-        )
-    );
-    assert!(rt;
-        matches!(
-            read_call(Vocabulary::Building, "charge 1 2 3 4 500"),
-            Some(Call::Charge {
+            },
+        ),
+        (" add  003 ", Call::Add { settings: 3 }),
+        (
+            "charge 1 2 3 4 500",
+            Call::Charge {
                 i: 1,
                 k: 2,
                 j: 3,
                 l: 4,
-                clash: 500
-            })
-        )
-    );
-    assert!(rt;
-        matches!(
-            read_call(Vocabulary::Building, "narrow 1 6"),
-            Some(Call::Narrow { i: 1, mask: 6 })
-        )
-    );
-    let row = row_of("weigh 7 8").ok_or("no row")?;
-    assert!(rt; row[0] == 7 && row[1] == 8 && row[2] == 0 && row[19] == 0);
-    let row = row_of("what-if 1 2 9").ok_or("no row")?;
-    assert!(rt; row[0] == 9 && row[1] == 0 && row[19] == 0);
-    Ok(())
+                clash: 500,
+            },
+        ),
+        ("narrow 1 6", Call::Narrow { i: 1, mask: 6 }),
+        (
+            "weigh 7 8",
+            Call::Weigh {
+                row: row_of(&[7, 8]),
+            },
+        ),
+        (
+            "what-if 1 2 9",
+            Call::WhatIf {
+                i: 1,
+                k: 2,
+                row: row_of(&[9]),
+            },
+        ),
+    ];
+    for (line, call) in table {
+        assert_eq!(rt;
+            read_call(Vocabulary::Building, line),
+            Some(call),
+            "{}",
+            line
+        );
+    }
 }
 
 #[test]
@@ -205,11 +242,7 @@ fn reports_are_written(rt: HostRuntime) -> Result<(), Fail> {
         ("what?", Answer::NotACall, "what? -> not a call"),
     ];
     for (line, answer, text) in table {
-        assert!(rt;
-            report(rt.alloc(), line, answer)?.as_str() == text,
-            "{}",
-            text
-        );
+        assert_eq!(rt; report(rt.alloc(), line, answer)?.as_str(), text);
     }
     Ok(())
 }

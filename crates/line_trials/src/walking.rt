@@ -1,4 +1,5 @@
 // Lines of the calls on a walk: which are calls, what they are read as, and what is reported of them.
+use crate::tests::row_of;
 use answers::answer::Answer;
 use answers::report::report;
 use calls::call::{Call, Vocabulary};
@@ -67,8 +68,9 @@ fn calls_are_told_apart(rt: HostRuntime) {
         );
     }
     for line in NO_CALLS {
-        assert!(rt;
-            matches!(read_line(Vocabulary::Walking, line), Line::NoCall),
+        assert_eq!(rt;
+            read_line(Vocabulary::Walking, line),
+            Line::NoCall,
             "{}",
             line
         );
@@ -77,61 +79,44 @@ fn calls_are_told_apart(rt: HostRuntime) {
 
 #[test]
 fn ceilings_and_tickets_are_read(rt: HostRuntime) {
-    assert!(rt;
-        matches!(
-            read_call(Vocabulary::Walking, "start 70000"),
-            Some(Call::Start {
-                ceiling: Figure::One(70000)
-            })
-        )
-    );
-    assert!(rt;
-        matches!(
-            read_call(Vocabulary::Walking, "ahead 3 4"),
-            Some(Call::Ahead {
-                ceiling: Figure::Two(3, 4)
-            })
-        )
-    );
-    assert!(rt;
-        matches!(
-            read_call(Vocabulary::Walking, "sit 20"),
-            Some(Call::Sit {
+    let table = [
+        (
+            "start 70000",
+            Call::Start {
+                ceiling: Figure::One(70000),
+            },
+        ),
+        (
+            "ahead 3 4",
+            Call::Ahead {
+                ceiling: Figure::Two(3, 4),
+            },
+        ),
+        (
+            "sit 20",
+            Call::Sit {
                 steps: 20,
-                ticket: None
-            })
-        )
-    );
-    assert!(rt;
-        matches!(
-            read_call(Vocabulary::Walking, "sit 20 ticket 7"),
-            Some(Call::Sit {
+                ticket: None,
+            },
+        ),
+        (
+            "sit 20 ticket 7",
+            Call::Sit {
                 steps: 20,
-                ticket: Some(7)
-            })
-        )
-    );
-    assert!(rt;
-        matches!(
-            read_call(Vocabulary::Walking, "close"),
-            Some(Call::Close { ticket: None })
-        )
-    );
-    assert!(rt;
-        matches!(
-            read_call(Vocabulary::Walking, "close ticket 007"),
-            Some(Call::Close { ticket: Some(7) })
-        )
-    );
-}
-
-// A setup of these settings, and then zeros.
-fn setup_of(first: u8, second: u8, third: u8, len: u8) -> Setup {
-    let mut settings = [0u8; 20];
-    settings[0] = first;
-    settings[1] = second;
-    settings[2] = third;
-    Setup { settings, len }
+                ticket: Some(7),
+            },
+        ),
+        ("close", Call::Close { ticket: None }),
+        ("close ticket 007", Call::Close { ticket: Some(7) }),
+    ];
+    for (line, call) in table {
+        assert_eq!(rt;
+            read_call(Vocabulary::Walking, line),
+            Some(call),
+            "{}",
+            line
+        );
+    }
 }
 
 fn closed(outcome: u8, charge: Figure, steps: u64, setup: Option<Setup>) -> Answer {
@@ -174,12 +159,28 @@ fn answers_are_reported(rt: HostRuntime) -> Result<(), Fail> {
         ),
         (
             "close",
-            closed(1, Figure::One(0), 11, Some(setup_of(0, 1, 0, 3))),
+            closed(
+                1,
+                Figure::One(0),
+                11,
+                Some(Setup {
+                    settings: row_of(&[0, 1, 0]),
+                    len: 3,
+                }),
+            ),
             "close -> outcome 1 charge 0 steps 11 setup 0 1 0",
         ),
         (
             "close",
-            closed(2, Figure::Two(0, 0), 26, Some(setup_of(2, 0, 1, 5))),
+            closed(
+                2,
+                Figure::Two(0, 0),
+                26,
+                Some(Setup {
+                    settings: row_of(&[2, 0, 1, 0, 0]),
+                    len: 5,
+                }),
+            ),
             "close -> outcome 2 charge 0 0 steps 26 setup 2 0 1 0 0",
         ),
         (
@@ -189,11 +190,7 @@ fn answers_are_reported(rt: HostRuntime) -> Result<(), Fail> {
         ),
     ];
     for (line, answer, text) in table {
-        assert!(rt;
-            report(rt.alloc(), line, answer)?.as_str() == text,
-            "{}",
-            text
-        );
+        assert_eq!(rt; report(rt.alloc(), line, answer)?.as_str(), text);
     }
     Ok(())
 }

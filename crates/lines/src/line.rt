@@ -14,7 +14,7 @@ use calls::opening::read_open;
 use words::splitting::next_word;
 
 /// What a line of a script is: blank or a comment, which is skipped; no call; or a call.
-#[derive(Clone, Copy)]
+#[derive(Debug, Clone, Copy, PartialEq)]
 pub enum Line {
     Skipped,
     NoCall,
@@ -67,14 +67,8 @@ pub fn read_call(vocabulary: Vocabulary, line: &str) -> Option<Call>
 pub fn read_line(vocabulary: Vocabulary, line: &str) -> Line
     ensures { Reads vocabulary (words_of line.now) result }
 {
-    let Some((first, _)) = next_word(line) else {
-        return Line::Skipped;
-    };
-    if first.starts_with('#') {
+    if next_word(line).is_none_or(|(first, _)| first.starts_with('#')) {
         return Line::Skipped;
     }
-    match read_call(vocabulary, line) {
-        Some(call) => Line::Call(call),
-        None => Line::NoCall,
-    }
+    read_call(vocabulary, line).map_or(Line::NoCall, Line::Call)
 }

@@ -6,6 +6,7 @@ use crate::figure::Figure;
 use std::fmt;
 
 /// A setup as it is printed: the first `len` of twenty settings.
+// Stays: twenty bytes and a length, since what an answer holds has no heap.
 #[derive(Clone, Copy)]
 pub struct Setup {
     pub settings: [u8; 20],
@@ -27,8 +28,7 @@ impl fmt::Display for Setup {
     ghost output = { λ x. Some (setup_text x) };
 
     fn fmt<W: fmt::Write>(&self, f: &mut fmt::Formatter<W>) -> fmt::Result {
-        let settings = &self.settings[0..usize::from(self.len.min(20))];
-        for setting in settings {
+        for setting in self.settings.iter().take(usize::from(self.len)) {
             write!(f, " {setting}")?;
         }
         Ok(())
@@ -39,10 +39,13 @@ impl fmt::Display for Closing {
     ghost output = { λ x. Some (closing_text x) };
 
     fn fmt<W: fmt::Write>(&self, f: &mut fmt::Formatter<W>) -> fmt::Result {
-        let outcome = self.outcome;
-        let charge = self.charge;
-        let steps = self.steps;
-        match self.setup {
+        let Closing {
+            outcome,
+            charge,
+            steps,
+            setup,
+        } = *self;
+        match setup {
             None => write!(f, "outcome {outcome} charge {charge} steps {steps}"),
             Some(setup) => write!(
                 f,

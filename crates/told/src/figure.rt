@@ -5,7 +5,7 @@ ghost use Rattle.std.specs.Prelude.{Some};
 use std::fmt;
 
 /// A charge as it is printed: one number, or two with a space between them.
-#[derive(Clone, Copy)]
+#[derive(Debug, Clone, Copy, PartialEq)]
 pub enum Figure {
     One(u32),
     Two(u16, u32),

@@ -1,6 +1,6 @@
 -- A number that is read digit by digit.
-use Rattle.std.proofs.Common.{◌≡◌, ℕ, ◌+◌, ◌-◌, ◌*◌, ◌<◌, ◌≤◌, [], ◌∷◌, length, get_or, drop, sym, refl, ap, ◌∙◌, subst, arith}
-use Rattle.std.proofs.lemmas.List.{drop_more, drop_all}
+use Rattle.std.proofs.Common.{◌≡◌, ℕ, ◌+◌, ◌-◌, ◌*◌, ◌<◌, ◌≤◌, [], ◌∷◌, length, get_or, drop, sym, ap, ◌∙◌, arith}
+use Rattle.std.proofs.lemmas.List.{drop_more}
 use Rattle.words.specs.Words.{Word}
 use Rattle.words.specs.Numbers.{Digits, value_after, Number}
 
@@ -10,9 +10,6 @@ pub record Sofar (max : ℕ) (w : Word) (i n : ℕ) : Type 0 where
   pub seen : Digits (drop i w) → Digits w
   pub left : Digits w → Digits (drop i w)
   pub within : n ≤ max
-
-pub start : (max : ℕ) (w : Word) → Sofar max w 0 0
-start max w = record { value = refl; seen = λ h. h; left = λ h. h; within = omega arith }
 
 no_less : (n : ℕ) (ds : Word) → n ≤ value_after n ds
 no_less n [] = omega arith
@@ -25,21 +22,5 @@ module _ {max : ℕ} {w : Word} {i n : ℕ} (old : Sofar max w i n) (here : i < 
   next_value : value_after (n * 10 + (get_or w i 0 - 48)) (drop (i + 1) w) ≡ value_after 0 w
   next_value = sym (ap (value_after n) rest) ∙ old.value
 
-  pub no_digit : ((48 ≤ get_or w i 0) → (get_or w i 0 ≤ 57) → ⊥) → (m : ℕ) → Number max w m → ⊥
-  no_digit bad m h = let ds = subst Digits rest (old.left h.digits) in bad ds.0 ds.1
-
   pub too_large : max < n * 10 + (get_or w i 0 - 48) → (m : ℕ) → Number max w m → ⊥
   too_large over m h = omega (arith, no_less (n * 10 + (get_or w i 0 - 48)) (drop (i + 1) w), next_value, h.value, h.within)
-
-  pub one_more : 48 ≤ get_or w i 0 → get_or w i 0 ≤ 57 → n * 10 + (get_or w i 0 - 48) ≤ max → Sofar max w (i + 1) (n * 10 + (get_or w i 0 - 48))
-  one_more low high fits = record {
-    value = next_value;
-    seen = λ ds. old.seen (subst Digits (sym rest) (low, high, ds));
-    left = λ ds. (subst Digits rest (old.left ds)).2;
-    within = fits;
-  }
-
-pub all_read : {max : ℕ} {w : Word} {i n : ℕ} → Sofar max w i n → length w ≤ i → 0 < length w → Number max w n
-all_read {max} {w} {i} {n} h done some =
-    let none = drop_all i w done in
-    record { some = some; digits = h.seen (subst Digits (sym none) tt); value = sym h.value ∙ ap (value_after n) none; within = h.within }

@@ -4,25 +4,22 @@ ghost use Rattle.words.specs.Exact.{Exactly};
 ghost use Rattle.words.specs.Words.{words_of};
 ghost use Rattle.std.specs.Prelude.{◌≡◌, length};
 
-use crate::splitting::next_word;
+use crate::splitting::Words;
 use crate::values::FromWord;
 
 /// The row that the words of a text fill, at most twenty numbers and then zeros; and how many words there are.
 pub fn read_path(text: &str) -> Option<([u8; 20], u8)>
     ensures { Exactly (λ p. Row (words_of text.now) p.0 × (length (words_of text.now) ≡ p.1)) result }
 {
-    let mut row = [0u8; 20];
-    let mut rest = text;
-    let mut n = 0;
-    while let Some((word, after)) = next_word(rest) {
-        if n == 20 {
-            return None;
-        }
-        row[n] = u8::from_word(word)?;
-        n += 1;
-        rest = after;
+    let len = Words(text).count();
+    if len > 20 {
+        return None;
     }
-    Some((row, n as u8))
+    let mut row = [0; 20];
+    for (i, word) in Words(text).enumerate() {
+        row[i] = u8::from_word(word)?;
+    }
+    Some((row, len as u8))
 }
 
 /// The row that the words of a text fill: at most twenty numbers, and then zeros.

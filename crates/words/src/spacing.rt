@@ -2,7 +2,7 @@
 ghost use Rattle.std.specs.Prelude.{◌≡◌, IfOk, string_bytes};
 ghost use Rattle.words.specs.Words.{words_of, spaced_text};
 
-use crate::splitting::next_word;
+use crate::splitting::{Words, next_word};
 use std::alloc::{AllocError, Global};
 
 /// The words of a text, with one space between them.
@@ -10,15 +10,13 @@ pub fn spaced(heap: Global, text: &str) -> Result<String, AllocError>
     ensures { IfOk result (λ s. string_bytes s ≡ spaced_text (words_of text.now)) }
 {
     let mut out = String::new(heap);
-    let Some((first, after)) = next_word(text) else {
+    let Some((first, rest)) = next_word(text) else {
         return Ok(out);
     };
     out.push_str(first)?;
-    let mut rest = after;
-    while let Some((word, after)) = next_word(rest) {
+    for word in Words(rest) {
         out.push_str(" ")?;
         out.push_str(word)?;
-        rest = after;
     }
     Ok(out)
 }

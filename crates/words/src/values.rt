@@ -8,6 +8,7 @@ use crate::numbers::decimal;
 use crate::splitting::next_word;
 
 /// A value that a word can say; `said w x` holds where the word w says x.
+// Stays: std's `FromStr` reads `+5` as a number, which is none here.
 pub trait FromWord: Sized {
     ghost said: { List ℕ → Self → Type 0 };
 
@@ -16,14 +17,12 @@ pub trait FromWord: Sized {
         ensures { Exactly (said word.now) result };
 }
 
+// Stays: an impl for each size of number, of one line: one impl for all sizes would overlap those for names.
 impl FromWord for u8 {
     ghost said = { Number 255 };
 
     fn from_word(word: &str) -> Option<u8> {
-        match decimal(word.as_bytes(), 255) {
-            Some(n) => Some(n as u8),
-            None => None,
-        }
+        decimal(word.as_bytes(), 255).map(|n| n as u8)
     }
 }
 
@@ -31,10 +30,7 @@ impl FromWord for u16 {
     ghost said = { Number 65535 };
 
     fn from_word(word: &str) -> Option<u16> {
-        match decimal(word.as_bytes(), 65535) {
-            Some(n) => Some(n as u16),
-            None => None,
-        }
+        decimal(word.as_bytes(), 65535).map(|n| n as u16)
     }
 }
 
@@ -51,8 +47,7 @@ pub fn take<T: FromWord>(text: &str) -> Option<(T, &str)>
     ensures { Takes T.said (words_of text.now) result }
 {
     let (word, rest) = next_word(text)?;
-    let value = T::from_word(word)?;
-    Some((value, rest))
+    Some((T::from_word(word)?, rest))
 }
 
 /// The values that the first two words of the text say, and what follows these words.

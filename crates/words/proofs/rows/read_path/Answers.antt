@@ -1,16 +1,25 @@
-use Rattle.std.proofs.Common.{arith, rules}
-use Rattle.words.proofs.Filling.{too_many, no_number, one_more, all_read}
+use Rattle.std.proofs.Common.{inl, sym, refl, arith}
+use Rattle.std.proofs.lemmas.Iterator.Consumers.{YieldsList-from_first, count_from_yields_List}
+use Rattle.words.specs.Words.{words_of}
+use Rattle.words.proofs.Spaces.{words_fit}
+use Rattle.words.proofs.Filling.{too_many, one_more, all_read}
 use Rattle.words.proofs.rows.read_path.Goals as goal
 
-pub returns-then-n-eq20 : goal.returns-then-n-eq20
-returns-then-n-eq20 c = λ p h. too_many c.loop-word.invariant.1 c.in-Some.ensures c.if-n-eq20.true p.0 h.0
+pub count-len-requires-clause-fits : goal.count-len-requires-clause-fits
+count-len-requires-clause-fits c = inl (omega (arith, words_fit c.args.text.now))
 
-pub returns-in_err-row : goal.returns-in_err-row
-returns-in_err-row c =
-    rw c.from_residual.ensures (λ p h. no_number c.loop-word.invariant.1 c.in-Some.ensures (omega (arith, c.loop-word.invariant.1.few, c.if-n-eq20.false)) c.in_err-row.ensures p.0 h.0)
+pub returns-then-len-gt20 : goal.returns-then-len-gt20
+returns-then-len-gt20 c =
+    let count = count_from_yields_List _ _ c.count-len.ensures.ran (YieldsList-from_first (λ w. w.now) (λ s. words_of s.0.now) (words_of c.args.text.now) refl) in
+    λ p h. too_many (words_of c.args.text.now) (omega arith) p.0 h.0
 
-pub loop-word-preserved : goal.loop-word-preserved
-loop-word-preserved c = (search rules, one_more c.loop-word.invariant.1 c.in-Some.ensures _ (omega (arith, c.loop-word.invariant.1.few, c.if-n-eq20.false)) c.in_ok-row.ensures)
+pub loop-i-preserved : goal.loop-i-preserved
+loop-i-preserved c =
+    let steps = c.in-Some.ensures.steps in
+    rw (steps.1, steps.2) (one_more c.loop-i.invariant steps.0 _ c.in_ok-row.ensures)
 
 pub returns : goal.returns
-returns c = all_read c.loop-word.invariant.1 c.in_default.ensures
+returns c =
+    let count = count_from_yields_List _ _ c.count-len.ensures.ran (YieldsList-from_first (λ w. w.now) (λ s. words_of s.0.now) (words_of c.args.text.now) refl) in
+    let all = all_read c.loop-i.invariant c.in-None.ensures.steps.0.0 in
+    (all.0, sym count)

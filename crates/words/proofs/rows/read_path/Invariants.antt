@@ -1,12 +1,6 @@
-use denote.Text.{Utf8}
-use denote.Shadow.{shadow}
-use Rattle.std.proofs.Common.{◌-◌}
 use Rattle.words.specs.Words.{words_of}
 use Rattle.words.proofs.Filling.{Sofar}
 use Rattle.words.proofs.rows.read_path.Given as goal
 
-abbrev pub invariant-loop-word : goal.invariant-loop-word
-invariant-loop-word l = shadow (Utf8 l.rest) × Sofar (words_of l.text) (words_of l.rest) l.row l.n
-
-abbrev pub decreases-loop-word : goal.decreases-loop-word
-decreases-loop-word l = 20 - l.n
+abbrev pub invariant-loop-i : goal.invariant-loop-i
+invariant-loop-i l = Sofar (words_of l.text) (words_of l.i-iterator.iter.0.now) l.row l.i-iterator.count

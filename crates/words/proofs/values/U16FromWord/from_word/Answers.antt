@@ -1,4 +1,0 @@
-use Rattle.words.proofs.values.U16FromWord.from_word.Goals as goal
-
-pub returns-in-None : goal.returns-in-None
-returns-in-None c = rw c.as_bytes.ensures.value at c.in-None.ensures
