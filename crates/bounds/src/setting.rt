@@ -50,12 +50,12 @@ pub trait SettingBound<C: Charge>: Bound<C> {
         ensures value { C.Charge.means result ≡ C.Charge.means (Self.Bound.floor self.now modules.now sheet.now (take len path)) }
     {
         let floor = self.floor_of(modules, sheet, path, len, scratch);
-        // Stays: not `change_rows`, since a closure cannot show that the room fits in memory; here the scratch shows it.
+        let room: &mut [C] = &mut [C::zero(); SCRATCH];
+        // Stays: not `change_rows`, whose closure cannot lend the room, nor show that a room of its own fits in memory.
         for j in len..modules.count() {
             for k in 0..8 {
                 if modules.allows(j, k) {
-                    let mut room = [C::zero(); SCRATCH];
-                    let more = self.answer_of(modules, sheet, path, len, j, k, &mut room);
+                    let more = self.answer_of(modules, sheet, path, len, j, k, room);
                     scratch[answer_place(j, k)] = more;
                 }
             }

@@ -1,4 +1,4 @@
-use Rattle.std.proofs.Common.{◌≡◌, ◌+◌, ◌*◌, ◌<◌, length, get_or, ◌∙◌, ap, arith, rules}
+use Rattle.std.proofs.Common.{◌+◌, ◌<◌, length, arith, rules}
 use Rattle.tables.specs.Modules.{allows}
 use Rattle.count_table.proofs.Tabling.{rows_kept, leasts_more}
 use Rattle.count_table.proofs.write_table.Goals as goal
