@@ -19,6 +19,7 @@ pub trait SettingBound<C: Charge>: Bound<C> {
     // the answer for setting k of the later module j
     ghost answer: { Self → Modules → List ℕ → List ℕ → ℕ → ℕ → C };
 
+    // Stays: each bound that prepares its answers writes the same two calls here; a function of both would lead back to its impl.
     /// The answer for setting `k` of the later module `j`. A bound that has all answers at once gives it by `prepare` and
     /// `prepared_answer`.
     fn answer_of(

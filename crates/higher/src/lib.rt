@@ -1,11 +1,8 @@
 // The higher of two bounds.
 #![tactic(auto)]
 
-ghost use Rattle.std.specs.Prelude.{◌≡◌, ℕ, ◌+◌, ◌*◌, ◌<◌, ◌≤◌, true, length, take, slice_index_or};
-ghost use Rattle.bounds.specs.Answers.{Rows, SameButRow};
-ghost use Rattle.bounds.specs.Beginnings.{answerable};
+ghost use Rattle.std.specs.Prelude.{◌≡◌};
 ghost use Rattle.higher.specs.Greater.{greater};
-ghost use Rattle.tables.specs.Modules.{allows};
 ghost use Rattle.bounds.proofs.Standing.{standing};
 ghost use Rattle.std.proofs.lemmas.Bool.{cond_both};
 ghost use Rattle.charges.specs.Kinds.{AtMost};
