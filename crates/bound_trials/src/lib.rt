@@ -1,8 +1,7 @@
 // A bound of one's own: it tells nothing, answers for one setting at a time, and prepares its answers by asking for each.
 #![tactic(auto)]
 
-ghost use Rattle.charges.specs.Kinds.{AtMost};
-ghost use Rattle.std.proofs.Common.{sym, subst};
+ghost use Rattle.bounds.proofs.Standing.{standing};
 ghost use Rattle.tables.specs.Setups.{charge_of};
 
 use bounds::bound::Bound;
@@ -19,7 +18,7 @@ impl<C: Charge> Bound<C> for Nothing {
 
     ghost lawful = { λ b m sheet p s begins starts fine.
         let K = C.Charge.kind in
-        subst (λ x. AtMost K x (charge_of K sheet s m.count)) (sym (C.Charge.stands K.zero))
+        standing K C.Charge.means C.Charge.made C.Charge.stands
         (C.Charge.lawful.least (charge_of K sheet s m.count)) };
 
     fn floor_of(
@@ -39,7 +38,7 @@ impl<C: Charge> SettingBound<C> for Nothing {
 
     ghost lawful_with = { λ b m sheet p s j k begins starts fine is.
         let K = C.Charge.kind in
-        subst (λ x. AtMost K x (charge_of K sheet s m.count)) (sym (C.Charge.stands K.zero))
+        standing K C.Charge.means C.Charge.made C.Charge.stands
         (C.Charge.lawful.least (charge_of K sheet s m.count)) };
 
     fn answer_of(

@@ -1,2 +1,3 @@
 pub mod Answerable
 pub mod Changing
+pub mod Standing

@@ -19,6 +19,7 @@ pub trait SettingBound<C: Charge>: Bound<C> {
     // the answer for setting k of the later module j
     ghost answer: { Self → Modules → List ℕ → List ℕ → ℕ → ℕ → C };
 
+    // Stays: each bound that prepares its answers writes the same two calls here; a function of both would lead back to its impl.
     /// The answer for setting `k` of the later module `j`. A bound that has all answers at once gives it by `prepare` and
     /// `prepared_answer`.
     fn answer_of(
@@ -50,12 +51,12 @@ pub trait SettingBound<C: Charge>: Bound<C> {
         ensures value { C.Charge.means result ≡ C.Charge.means (Self.Bound.floor self.now modules.now sheet.now (take len path)) }
     {
         let floor = self.floor_of(modules, sheet, path, len, scratch);
-        // Stays: not `change_rows`, since a closure cannot show that the room fits in memory; here the scratch shows it.
+        let room: &mut [C] = &mut [C::zero(); SCRATCH];
+        // Stays: not `change_rows`, whose closure cannot lend the room, nor show that a room of its own fits in memory.
         for j in len..modules.count() {
             for k in 0..8 {
                 if modules.allows(j, k) {
-                    let mut room = [C::zero(); SCRATCH];
-                    let more = self.answer_of(modules, sheet, path, len, j, k, &mut room);
+                    let more = self.answer_of(modules, sheet, path, len, j, k, room);
                     scratch[answer_place(j, k)] = more;
                 }
             }

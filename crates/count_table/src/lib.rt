@@ -2,13 +2,10 @@
 // module j at 160 + j. In the end the answers stand in the place of the counts.
 #![tactic(auto)]
 
-ghost use Rattle.std.specs.Prelude.{◌≡◌, ℕ, ◌+◌, ◌*◌, ◌<◌, ◌≤◌, true, length, take, slice_index_or};
-ghost use Rattle.bounds.specs.Answers.{Rows};
-ghost use Rattle.count_table.specs.Table.{Answered, Leasts};
+ghost use Rattle.std.specs.Prelude.{◌≡◌, ℕ, ◌+◌, ◌≤◌, length, take, slice_index_or};
+ghost use Rattle.count_table.specs.Table.{Tabled, Answered, Prepared};
 ghost use Rattle.counts.specs.Counting.{MayCount, Counts};
-ghost use Rattle.counts.specs.Floors.{floor_over, only};
 ghost use Rattle.tables.specs.Joins.{joined_from};
-ghost use Rattle.tables.specs.Modules.{allows};
 
 use bounds::rows::{answer_place, change_row, change_rows};
 use charges::Charge;
@@ -36,8 +33,7 @@ fn join_leasts<C: Charge>(start: C, scratch: &[C], from: usize, to: usize) -> C
 fn write_table<C: Charge, F: Fn(usize, u8) -> C>(begun: &Begun, count: F, scratch: &mut [C])
     requires counted { MayCount (F.pre count) begun.now.len begun.now.modules.now.count }
     requires room { 192 ≤ length scratch.old }
-    ensures counts { (value : ℕ → ℕ → C.Charge.kind.V) → Counts C.Charge.means (F.post count) value begun.now.len begun.now.modules.now.count → Rows C.Charge.means (allows begun.now.modules.now) value begun.now.len begun.now.modules.now.count scratch.new }
-    ensures leasts { (value : ℕ → ℕ → C.Charge.kind.V) → Counts C.Charge.means (F.post count) value begun.now.len begun.now.modules.now.count → Leasts C.Charge.kind C.Charge.means (allows begun.now.modules.now) value begun.now.len begun.now.modules.now.count scratch.new }
+    ensures { (f : ℕ → ℕ → C.Charge.kind.V) → Counts C.Charge.means (F.post count) f begun.now.len begun.now.modules.now.count → Tabled C.Charge.kind C.Charge.means begun.now.modules.now f begun.now.len scratch.new }
 {
     change_rows(
         begun.modules,
@@ -58,7 +54,7 @@ fn write_table<C: Charge, F: Fn(usize, u8) -> C>(begun: &Begun, count: F, scratc
 fn write_answers<C: Charge>(modules: &Modules, start: C, d: usize, scratch: &mut [C]) -> C
     requires within { d ≤ modules.now.count }
     requires room { 192 ≤ length scratch.old }
-    ensures { (f : ℕ → ℕ → C.Charge.kind.V) → Rows C.Charge.means (allows modules.now) f d modules.now.count scratch.old → Leasts C.Charge.kind C.Charge.means (allows modules.now) f d modules.now.count scratch.old → Answered C.Charge.kind C.Charge.means modules.now f (C.Charge.means start) d (C.Charge.means result) scratch.new }
+    ensures { (f : ℕ → ℕ → C.Charge.kind.V) → Tabled C.Charge.kind C.Charge.means modules.now f d scratch.old → Answered C.Charge.kind C.Charge.means modules.now f (C.Charge.means start) d (C.Charge.means result) scratch.new }
 {
     let mut before = start;
     for j in d..modules.count() {
@@ -73,8 +69,7 @@ fn write_answers<C: Charge>(modules: &Modules, start: C, d: usize, scratch: &mut
 pub fn prepare<C: Charge, F: Fn(usize, u8) -> C>(begun: &Begun, count: F, scratch: &mut [C]) -> C
     requires counted { MayCount (F.pre count) begun.now.len begun.now.modules.now.count }
     requires room { 192 ≤ length scratch.old }
-    ensures answers { (value : ℕ → ℕ → C.Charge.kind.V) → Counts C.Charge.means (F.post count) value begun.now.len begun.now.modules.now.count → Rows C.Charge.means (allows begun.now.modules.now) (λ j k. floor_over C.Charge.kind begun.now.modules.now begun.now.sheet.now (only begun.now.modules.now j k) value (take begun.now.len begun.now.path.now)) begun.now.len begun.now.modules.now.count scratch.new }
-    ensures value { (value : ℕ → ℕ → C.Charge.kind.V) → Counts C.Charge.means (F.post count) value begun.now.len begun.now.modules.now.count → C.Charge.means result ≡ floor_over C.Charge.kind begun.now.modules.now begun.now.sheet.now (allows begun.now.modules.now) value (take begun.now.len begun.now.path.now) }
+    ensures { (f : ℕ → ℕ → C.Charge.kind.V) → Counts C.Charge.means (F.post count) f begun.now.len begun.now.modules.now.count → Prepared C.Charge.kind C.Charge.means begun.now.modules.now begun.now.sheet.now (take begun.now.len begun.now.path.now) f begun.now.len (C.Charge.means result) scratch.new }
 {
     write_table(begun, count, scratch);
     write_answers(

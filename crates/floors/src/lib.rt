@@ -2,10 +2,8 @@
 #![tactic(auto)]
 
 ghost use Rattle.counts.specs.Floors.{past_charge, counted, floor_over, only};
-ghost use Rattle.std.proofs.Common.{sym, subst};
-ghost use Rattle.charges.specs.Kinds.{AtMost};
+ghost use Rattle.bounds.proofs.Standing.{standing};
 ghost use Rattle.tables.specs.Modules.{allows};
-ghost use Rattle.tables.specs.Setups.{charge_of};
 ghost use Rattle.counts.proofs.Sound.{past_sound, counted_sound, counted_with_sound};
 
 use bounds::bound::Bound;
@@ -34,7 +32,7 @@ impl<C: Charge> Bound<C> for Past {
 
     ghost lawful = { λ b m sheet p s begins starts fine.
         let K = C.Charge.kind in
-        subst (λ x. AtMost K x (charge_of K sheet s m.count)) (sym (C.Charge.stands (past_charge K sheet p)))
+        standing K C.Charge.means C.Charge.made C.Charge.stands
         (past_sound K C.Charge.lawful m sheet p s begins.within starts fine) };
 
     fn floor_of(
@@ -54,7 +52,7 @@ impl<C: Charge, const DIRECTED: bool> Bound<C> for Counted<DIRECTED> {
 
     ghost lawful = { λ b m sheet p s begins starts fine.
         let K = C.Charge.kind in
-        subst (λ x. AtMost K x (charge_of K sheet s m.count)) (sym (C.Charge.stands (floor_over K m sheet (allows m) (counted K m sheet DIRECTED p) p)))
+        standing K C.Charge.means C.Charge.made C.Charge.stands
         (counted_sound K C.Charge.lawful m sheet p s begins.within starts fine DIRECTED) };
 
     fn floor_of(
@@ -84,7 +82,7 @@ impl<C: Charge, const DIRECTED: bool> SettingBound<C> for Counted<DIRECTED> {
 
     ghost lawful_with = { λ b m sheet p s j k begins starts fine is.
         let K = C.Charge.kind in
-        subst (λ x. AtMost K x (charge_of K sheet s m.count)) (sym (C.Charge.stands (floor_over K m sheet (only m j k) (counted K m sheet DIRECTED p) p)))
+        standing K C.Charge.means C.Charge.made C.Charge.stands
         (counted_with_sound K C.Charge.lawful m sheet p s begins.within starts fine DIRECTED j k is) };
 
     fn answer_of(

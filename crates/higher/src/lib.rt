@@ -1,12 +1,9 @@
 // The higher of two bounds.
 #![tactic(auto)]
 
-ghost use Rattle.std.specs.Prelude.{◌≡◌, ℕ, ◌+◌, ◌*◌, ◌<◌, ◌≤◌, true, length, take, slice_index_or};
-ghost use Rattle.bounds.specs.Answers.{Rows, SameButRow};
-ghost use Rattle.bounds.specs.Beginnings.{answerable};
+ghost use Rattle.std.specs.Prelude.{◌≡◌};
 ghost use Rattle.higher.specs.Greater.{greater};
-ghost use Rattle.tables.specs.Modules.{allows};
-ghost use Rattle.std.proofs.Common.{sym, subst};
+ghost use Rattle.bounds.proofs.Standing.{standing};
 ghost use Rattle.std.proofs.lemmas.Bool.{cond_both};
 ghost use Rattle.charges.specs.Kinds.{AtMost};
 ghost use Rattle.tables.specs.Setups.{charge_of};
@@ -31,33 +28,6 @@ fn greater<C: Charge>(x: C, y: C) -> C
     if x.is_at_most(y) { y } else { x }
 }
 
-// Prepares both bounds, and takes the greater answers.
-fn prepare_both<C: Charge, A: SettingBound<C>, B: SettingBound<C>>(
-    first: &A,
-    second: &B,
-    modules: &Modules,
-    sheet: &[u16],
-    path: [u8; 20],
-    len: usize,
-    scratch: &mut [C],
-    room: &mut [C],
-) -> C
-    requires begun { answerable modules.now sheet.now path len (length scratch.old) ≡ true }
-    requires also { answerable modules.now sheet.now path len (length room.old) ≡ true }
-    ensures answers { Rows C.Charge.means (allows modules.now) (λ j k. greater C.Charge.kind (C.Charge.means (A.SettingBound.answer first.now modules.now sheet.now (take len path) j k)) (C.Charge.means (B.SettingBound.answer second.now modules.now sheet.now (take len path) j k))) len modules.now.count scratch.new }
-    ensures value { C.Charge.means result ≡ greater C.Charge.kind (C.Charge.means (A.Bound.floor first.now modules.now sheet.now (take len path))) (C.Charge.means (B.Bound.floor second.now modules.now sheet.now (take len path))) }
-{
-    let one = first.prepare(modules, sheet, path, len, scratch);
-    let other = second.prepare(modules, sheet, path, len, room);
-    change_rows(
-        modules,
-        len,
-        |j, k, answer| greater(answer, room[answer_place(j, k)]),
-        scratch,
-    );
-    greater(one, other)
-}
-
 impl<C: Charge, A: Bound<C>, B: Bound<C>> Bound<C> for Higher<A, B> {
     ghost floor = { λ h m sheet p. C.Charge.made (greater C.Charge.kind (C.Charge.means (A.Bound.floor h.first m sheet p)) (C.Charge.means (B.Bound.floor h.second m sheet p))) };
 
@@ -65,7 +35,7 @@ impl<C: Charge, A: Bound<C>, B: Bound<C>> Bound<C> for Higher<A, B> {
         let K = C.Charge.kind in
         let x = C.Charge.means (A.Bound.floor h.first m sheet p) in
         let y = C.Charge.means (B.Bound.floor h.second m sheet p) in
-        subst (λ v. AtMost K v (charge_of K sheet s m.count)) (sym (C.Charge.stands (greater K x y)))
+        standing K C.Charge.means C.Charge.made C.Charge.stands
         (cond_both (K.at_most x y) y x (λ v. AtMost K v (charge_of K sheet s m.count))
         (λ _. B.Bound.lawful h.second m sheet p s begins starts fine)
         (λ _. A.Bound.lawful h.first m sheet p s begins starts fine)) };
@@ -91,7 +61,7 @@ impl<C: Charge, A: SettingBound<C>, B: SettingBound<C>> SettingBound<C> for High
         let K = C.Charge.kind in
         let x = C.Charge.means (A.SettingBound.answer h.first m sheet p j k) in
         let y = C.Charge.means (B.SettingBound.answer h.second m sheet p j k) in
-        subst (λ v. AtMost K v (charge_of K sheet s m.count)) (sym (C.Charge.stands (greater K x y)))
+        standing K C.Charge.means C.Charge.made C.Charge.stands
         (cond_both (K.at_most x y) y x (λ v. AtMost K v (charge_of K sheet s m.count))
         (λ _. B.SettingBound.lawful_with h.second m sheet p s j k begins starts fine is)
         (λ _. A.SettingBound.lawful_with h.first m sheet p s j k begins starts fine is)) };
@@ -118,16 +88,15 @@ impl<C: Charge, A: SettingBound<C>, B: SettingBound<C>> SettingBound<C> for High
         len: usize,
         scratch: &mut [C],
     ) -> C {
-        let mut room = [C::zero(); SCRATCH];
-        prepare_both(
-            &self.first,
-            &self.second,
+        let room: &mut [C] = &mut [C::zero(); SCRATCH];
+        let one = self.first.prepare(modules, sheet, path, len, scratch);
+        let other = self.second.prepare(modules, sheet, path, len, room);
+        change_rows(
             modules,
-            sheet,
-            path,
             len,
+            |j, k, answer| greater(answer, room[answer_place(j, k)]),
             scratch,
-            &mut room,
-        )
+        );
+        greater(one, other)
     }
 }

@@ -20,17 +20,16 @@ returns g c =
     let p = take d path in
     let past = past_charge K sheet p in
     let long : length p ≡ d = taken K L sheet path d b.held.long in
+    λ f counts.
+    let told = c.write_answers.ensures f (c.write_table.ensures f counts) in
+    let mins : ℕ → K.V = λ i. least K (allows m i) (f i) in
     record {
-      answers = λ f counts.
-          let told = c.write_answers.ensures f (c.write_table.ensures.counts f counts) (c.write_table.ensures.leasts f counts) in
-          λ j from below k small allowed z.
-          told.answers j from below k small allowed z
-          ∙ ap (λ x. chosen K m f x d j k) c.past.ensures
-          ∙ floor_with_is K L m sheet p f j k d long from below small;
-      value = λ f counts.
-          let told = c.write_answers.ensures f (c.write_table.ensures.counts f counts) (c.write_table.ensures.leasts f counts) in
-          let mins : ℕ → K.V = λ i. least K (allows m i) (f i) in
+      value =
           told.value
           ∙ ap (λ x. K.join x (joined_from K mins d m.count)) c.past.ensures
           ∙ ap (λ e. K.join past (joined_from K mins e m.count)) (sym long);
+      answers = λ j from below k small allowed z.
+          told.answers j from below k small allowed z
+          ∙ ap (λ x. chosen K m f x d j k) c.past.ensures
+          ∙ floor_with_is K L m sheet p f j k d long from below small;
     }

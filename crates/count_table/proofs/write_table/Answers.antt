@@ -1,4 +1,4 @@
-use Rattle.std.proofs.Common.{◌≡◌, ◌+◌, ◌*◌, ◌<◌, length, get_or, ◌∙◌, ap, arith, rules}
+use Rattle.std.proofs.Common.{◌+◌, ◌<◌, length, arith, rules}
 use Rattle.tables.specs.Modules.{allows}
 use Rattle.count_table.proofs.Tabling.{rows_kept, leasts_more}
 use Rattle.count_table.proofs.write_table.Goals as goal
@@ -23,3 +23,12 @@ loop-j-preserved g c = λ f counts.
       rows_kept K means (allows m) f d j xs x m.count m.few inv.0,
       leasts_more K means (allows m) f d j xs x within (c.least.ensures (f j) (λ k small allowed r gave. let there = inv.0 j (omega arith) (omega arith) k small allowed r in search rules)) inv.1,
     )
+
+pub returns : goal.returns
+returns g c = λ f counts.
+    let m = c.args.begun.now.modules.now in
+    let inv = c.loop-j.invariant f counts in
+    record {
+      counts = inv.0;
+      leasts = λ j from below. inv.1 j from (omega (arith, c.args.begun.now.within));
+    }

@@ -21,13 +21,11 @@ returns-then-this-ne0 g c =
     let m = c.args.modules.now in
     let sheet = c.args.sheet.now in
     let p = take c.args.len c.args.path in
+    let prepared = c.prepare.ensures (both K m sheet p) (λ j k from below small r gave. search rules) in
     record {
       answers = λ j from below k small allowed z.
-          told K g.C.Charge.means g.C.Charge.made g.met.C.Charge.stands m sheet p (only m j k) true (ap not (ne_eqb _ _ c.if-this-ne0.true))
-          (c.prepare.ensures.answers (both K m sheet p) (λ j k from below small r gave. search rules) j from below k small allowed z);
-      value =
-          told K g.C.Charge.means g.C.Charge.made g.met.C.Charge.stands m sheet p (allows m) true (ap not (ne_eqb _ _ c.if-this-ne0.true))
-          (c.prepare.ensures.value (both K m sheet p) (λ j k from below small r gave. search rules));
+          told K g.C.Charge.means g.C.Charge.made g.met.C.Charge.stands m sheet p (only m j k) true (ap not (ne_eqb _ _ c.if-this-ne0.true)) (prepared.answers j from below k small allowed z);
+      value = told K g.C.Charge.means g.C.Charge.made g.met.C.Charge.stands m sheet p (allows m) true (ap not (ne_eqb _ _ c.if-this-ne0.true)) prepared.value;
     }
 
 pub returns-else-this-ne0 : goal.returns-else-this-ne0
@@ -36,11 +34,9 @@ returns-else-this-ne0 g c =
     let m = c.args.modules.now in
     let sheet = c.args.sheet.now in
     let p = take c.args.len c.args.path in
+    let prepared = c.prepare-else-this-ne0.ensures (forward K sheet p) (λ j k from below small r gave. search rules) in
     record {
       answers = λ j from below k small allowed z.
-          told K g.C.Charge.means g.C.Charge.made g.met.C.Charge.stands m sheet p (only m j k) false (ap not (eq-eqb _ _ c.if-this-ne0.false))
-          (c.prepare-else-this-ne0.ensures.answers (forward K sheet p) (λ j k from below small r gave. search rules) j from below k small allowed z);
-      value =
-          told K g.C.Charge.means g.C.Charge.made g.met.C.Charge.stands m sheet p (allows m) false (ap not (eq-eqb _ _ c.if-this-ne0.false))
-          (c.prepare-else-this-ne0.ensures.value (forward K sheet p) (λ j k from below small r gave. search rules));
+          told K g.C.Charge.means g.C.Charge.made g.met.C.Charge.stands m sheet p (only m j k) false (ap not (eq-eqb _ _ c.if-this-ne0.false)) (prepared.answers j from below k small allowed z);
+      value = told K g.C.Charge.means g.C.Charge.made g.met.C.Charge.stands m sheet p (allows m) false (ap not (eq-eqb _ _ c.if-this-ne0.false)) prepared.value;
     }

@@ -1,17 +1,9 @@
-use Rattle.std.proofs.Common.{◌≡◌, ℕ, ◌+◌, ◌*◌, ◌<◌, length, set, take, sym, ap, ◌∙◌, subst, lt_of_le_of_lt, arith}
-use Rattle.std.proofs.lemmas.Nat.{mul-le}
+use Rattle.std.proofs.Common.{◌≡◌, ℕ, ◌+◌, ◌*◌, ◌<◌, length, set, take, sym, ap, ◌∙◌, subst, arith}
 use Rattle.tables.specs.Modules.{allows}
 use Rattle.bounds.proofs.Answerable.{begun}
 use Rattle.bounds.proofs.Changing.{Changing, changing_more, changing_skips, rows_changed}
 use Rattle.bounds.proofs.setting.SettingBound.prepare.Goals as goal
 use Rattle.bounds.proofs.setting.SettingBound.prepare.Goals.{then-allows, else-allows}
-
--- the caller's scratch is as long, and fits
-pub whole_as_slice-answer_of : goal.whole_as_slice-answer_of
-whole_as_slice-answer_of g c =
-    let n = length c.args.scratch.now in
-    let b = begun c.args.modules.now c.args.sheet.now c.args.path c.args.len n c.requires in
-    lt_of_le_of_lt (mul-le 192 _ n _ b.roomy (omega arith)) c.well_formed.1.1.1.1.1.0.1
 
 pub loop-k-preserved : goal.loop-k-preserved
 loop-k-preserved g c =
