@@ -1,6 +1,7 @@
 -- The text of an answer, and of a line with its answer.
 use Rattle.std.specs.Prelude.{ℕ, Bool, true, false, List, ◌++◌, codes, decimal}
 use Rattle.words.specs.Words.{Word, spaced_text}
+use Rattle.jobs.specs.Refusals.{number_of}
 use Rattle.told.specs.Texts.{figure_text, closing_text}
 use Rattle.answers.specs.declared.answer.Answer.{Answer}
 use Rattle.answers.specs.declared.answer.Answer.TheVariants.{Done, Module, Charge, Ticket, Sat, Closed, Refused, NotACall}
@@ -16,9 +17,9 @@ answer_text Done = codes "ok"
 answer_text (Module i) = codes "module " ++ decimal i
 answer_text (Charge x) = codes "charge " ++ figure_text x
 answer_text (Ticket n) = codes "ticket " ++ decimal n
-answer_text (Sat m finished) = codes "made " ++ (decimal m ++ (codes " " ++ progress_text finished))
+answer_text (Sat told) = codes "made " ++ (decimal told.made ++ (codes " " ++ progress_text told.finished))
 answer_text (Closed x) = closing_text x
-answer_text (Refused n) = codes "refused " ++ decimal n
+answer_text (Refused refusal) = codes "refused " ++ decimal (number_of refusal)
 answer_text NotACall = codes "not a call"
 
 -- the words of a line, an arrow, and the answer

@@ -2,6 +2,8 @@
 ghost use Rattle.answers.specs.Answers.{answer_text};
 ghost use Rattle.std.specs.Prelude.{Some};
 
+use jobs::refusal::Refusal;
+use jobs::sat::Sat;
 use std::fmt;
 use told::closing::Closing;
 use told::figure::Figure;
@@ -13,9 +15,9 @@ pub enum Answer {
     Module(u8),
     Charge(Figure),
     Ticket(u32),
-    Sat { made: u32, finished: bool },
+    Sat(Sat),
     Closed(Closing),
-    Refused(u8),
+    Refused(Refusal),
     NotACall,
 }
 
@@ -28,12 +30,12 @@ impl fmt::Display for Answer {
             Answer::Module(i) => write!(f, "module {i}"),
             Answer::Charge(figure) => write!(f, "charge {figure}"),
             Answer::Ticket(number) => write!(f, "ticket {number}"),
-            Answer::Sat { made, finished } => {
+            Answer::Sat(Sat { made, finished }) => {
                 let state = if finished { "finished" } else { "unfinished" };
                 write!(f, "made {made} {state}")
             }
             Answer::Closed(closing) => write!(f, "{closing}"),
-            Answer::Refused(reason) => write!(f, "refused {reason}"),
+            Answer::Refused(refusal) => write!(f, "refused {}", refusal.number()),
             Answer::NotACall => write!(f, "not a call"),
         }
     }

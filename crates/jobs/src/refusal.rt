@@ -7,29 +7,29 @@ ghost use Rattle.jobs.specs.Refusals.{number_of};
 #[derive(Clone, Copy, Debug, PartialEq, Eq)]
 pub enum Refusal {
     /// Sheet, row or scratch too short.
-    TooShort,
+    TooShort = 1,
     /// A walk is open.
-    SearchOpen,
+    SearchOpen = 2,
     /// Twenty modules are there.
-    Full,
+    Full = 3,
     /// The number of settings is not 1 to 8.
-    SettingsOutOfRange,
+    SettingsOutOfRange = 4,
     /// No such module.
-    NoModule,
+    NoModule = 5,
     /// The first module is not the lower.
-    NotLower,
+    NotLower = 6,
     /// No such setting.
-    NoSetting,
+    NoSetting = 7,
     /// The clash is above 1,000.
-    ClashTooHigh,
+    ClashTooHigh = 8,
     /// The mask is 0, or has a bit of no setting.
-    WrongMask,
+    WrongMask = 9,
     /// No modules to walk.
-    NoModules,
+    NoModules = 10,
     /// The ticket is of another job number, or no walk is open.
-    WrongTicket,
+    WrongTicket = 11,
     /// Zero steps.
-    NoSteps,
+    NoSteps = 12,
 }
 
 impl Refusal {
@@ -38,19 +38,6 @@ impl Refusal {
         ensures value { result ≡ number_of self }
         ensures order { InNumberOrder }
     {
-        match self {
-            Refusal::TooShort => 1,
-            Refusal::SearchOpen => 2,
-            Refusal::Full => 3,
-            Refusal::SettingsOutOfRange => 4,
-            Refusal::NoModule => 5,
-            Refusal::NotLower => 6,
-            Refusal::NoSetting => 7,
-            Refusal::ClashTooHigh => 8,
-            Refusal::WrongMask => 9,
-            Refusal::NoModules => 10,
-            Refusal::WrongTicket => 11,
-            Refusal::NoSteps => 12,
-        }
+        self as u8
     }
 }

@@ -4,6 +4,7 @@ ghost use Rattle.std.specs.Prelude.{◌≤◌, length};
 use answers::answer::Answer;
 use answers::report::report;
 use calls::call::{BoundName, Call, KindName, SimpleBound, Vocabulary, Walks};
+use jobs::refusal::Refusal;
 use lines::line::{Line, read_call, read_line};
 use std::test::Fail;
 use told::figure::Figure;
@@ -238,7 +239,11 @@ fn reports_are_written(rt: HostRuntime) -> Result<(), Fail> {
             Answer::Charge(Figure::Two(0, 50)),
             "weigh 1 -> charge 0 50",
         ),
-        ("narrow 9 9", Answer::Refused(7), "narrow 9 9 -> refused 7"),
+        (
+            "narrow 9 9",
+            Answer::Refused(Refusal::NoSetting),
+            "narrow 9 9 -> refused 7",
+        ),
         ("what?", Answer::NotACall, "what? -> not a call"),
     ];
     for (line, answer, text) in table {

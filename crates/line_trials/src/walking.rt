@@ -3,10 +3,12 @@ use crate::tests::row_of;
 use answers::answer::Answer;
 use answers::report::report;
 use calls::call::{Call, Vocabulary};
+use jobs::sat::Sat;
 use lines::line::{Line, read_call, read_line};
 use std::test::Fail;
 use told::closing::{Closing, Setup};
 use told::figure::Figure;
+use walks::outcome::Outcome;
 
 const CALLS: [&str; 14] = [
     "start 0",
@@ -119,7 +121,7 @@ fn ceilings_and_tickets_are_read(rt: HostRuntime) {
     }
 }
 
-fn closed(outcome: u8, charge: Figure, steps: u64, setup: Option<Setup>) -> Answer {
+fn closed(outcome: Outcome, charge: Figure, steps: u64, setup: Option<Setup>) -> Answer {
     Answer::Closed(Closing {
         outcome,
         charge,
@@ -138,29 +140,29 @@ fn answers_are_reported(rt: HostRuntime) -> Result<(), Fail> {
         ),
         (
             "sit 1000",
-            Answer::Sat {
+            Answer::Sat(Sat {
                 made: 14,
                 finished: true,
-            },
+            }),
             "sit 1000 -> made 14 finished",
         ),
         (
             "sit 2",
-            Answer::Sat {
+            Answer::Sat(Sat {
                 made: 2,
                 finished: false,
-            },
+            }),
             "sit 2 -> made 2 unfinished",
         ),
         (
             "close",
-            closed(0, Figure::Two(65534, 700), 2, None),
+            closed(Outcome::Unfinished, Figure::Two(65534, 700), 2, None),
             "close -> outcome 0 charge 65534 700 steps 2",
         ),
         (
             "close",
             closed(
-                1,
+                Outcome::UnfinishedWithSetup,
                 Figure::One(0),
                 11,
                 Some(Setup {
@@ -173,7 +175,7 @@ fn answers_are_reported(rt: HostRuntime) -> Result<(), Fail> {
         (
             "close",
             closed(
-                2,
+                Outcome::Finished,
                 Figure::Two(0, 0),
                 26,
                 Some(Setup {
@@ -185,7 +187,7 @@ fn answers_are_reported(rt: HostRuntime) -> Result<(), Fail> {
         ),
         (
             "close ticket 7",
-            closed(3, Figure::One(5), 1, None),
+            closed(Outcome::NoneBelow, Figure::One(5), 1, None),
             "close ticket 7 -> outcome 3 charge 5 steps 1",
         ),
     ];

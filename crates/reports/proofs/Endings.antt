@@ -14,7 +14,7 @@ module _ {C : Type 0} (K : Kind) (means : C → K.V) (made : K.V → C) (shows :
     (stands : (v : K.V) → means (made v) ≡ v) (alike : (x y : C) → means x ≡ means y → shows x ≡ shows y) where
   -- what a close tells of the open walk is printed of it
   pub ends : (m : Modules) (w : Option (Search C)) (told : Closed C) (row : List ℕ) (x : Closing)
-      → x.outcome ≡ (fixed told.outcome).number
+      → x.outcome ≡ told.outcome
       → x.charge ≡ shows told.charge
       → x.steps ≡ told.steps
       → x.setup ≡ setup_told (fixed told.outcome).with_setup row m.count

@@ -6,7 +6,7 @@ use Rattle.tables.specs.Modules.{Adds, Narrows}
 use Rattle.tables.specs.Sheet.{Clears, position}
 use Rattle.tables.specs.Setups.{charge_of}
 use Rattle.jobs.specs.declared.refusal.Refusal.{Refusal}
-use Rattle.jobs.specs.Refusals.{number_of, first}
+use Rattle.jobs.specs.Refusals.{first}
 use Rattle.jobs.specs.Checks.{unless_walking, add_checks, charge_checks, narrow_checks, weigh_checks, what_if_checks}
 use Rattle.told.specs.declared.figure.Figure.{Figure}
 use Rattle.answers.specs.declared.answer.Answer.{Answer}
@@ -14,9 +14,9 @@ use Rattle.answers.specs.declared.answer.Answer.TheVariants as answer
 use Rattle.calls.specs.declared.call.Call.{Call}
 use Rattle.calls.specs.declared.call.Call.TheVariants.{Open, Add, Charge, Narrow, Weigh, WhatIf, Floor, FloorWith, Start, Ahead, Sit, Close}
 
--- under a call's checks: what is accepted, or the number of the first refusal that fits, with nothing altered
+-- under a call's checks: what is accepted, or the first refusal that fits, with nothing altered
 abbrev pub Tells : List (Refusal × Bool) → Answer → Type 0 → Type 0 → Type 0
-Tells checks a Accepted Unaltered = MatchOption (first checks) Accepted (λ e. (a ≡ answer.Refused (number_of e)) × Unaltered)
+Tells checks a Accepted Unaltered = MatchOption (first checks) Accepted (λ e. (a ≡ answer.Refused e) × Unaltered)
 
 module _ (K : Kind) (figure : K.V → Figure) where
   -- a call of these on a job with modules m and a sheet is answered a, and leaves them as m' and sheet'; `walking` says whether a walk is open, and `figure` prints a charge

@@ -43,7 +43,7 @@ module _ {C : Type 0} (K : Kind) (means : C → K.V) where
   abbrev pub SitsTold : (Modules → List ℕ → List ℕ → C) → (Modules → List ℕ → List ℕ → ℕ → ℕ → C) → ℕ → ℕ → List ℕ → Option (Search C) → ℕ → Option ℕ → Answer → Option (Search C) → Type 0
   SitsTold floor with number room sheet w steps ticket a w' =
       Tells (sit_checks (is_open w) number sheet room (brought number ticket) steps) a
-      ((told : Sat) × (a ≡ answer.Sat told.made told.finished) × SitsOpen K means floor with sheet steps w w' told)
+      ((told : Sat) × (a ≡ answer.Sat told) × SitsOpen K means floor with sheet steps w w' told)
       (w' ≡ w)
 
   -- what is printed of a walk that ends: what its close tells, and makes of a row of zeros
@@ -51,7 +51,7 @@ module _ {C : Type 0} (K : Kind) (means : C → K.V) where
     pub told : Closed C
     pub row : List ℕ
     pub closes : Closes K means s blank_row told row
-    pub outcome : x.outcome ≡ (fixed told.outcome).number
+    pub outcome : x.outcome ≡ told.outcome
     pub charge : x.charge ≡ figure (means told.charge)
     pub steps : x.steps ≡ told.steps
     pub setup : x.setup ≡ setup_told (fixed told.outcome).with_setup row m.count

@@ -1,6 +1,5 @@
 // One call that builds or weighs, carried out on a job.
 ghost use Rattle.std.specs.Prelude.{◌≡◌, MatchResult};
-ghost use Rattle.jobs.specs.Refusals.{number_of};
 ghost use Rattle.jobs.specs.Searching.{is_open};
 ghost use Rattle.answers.specs.declared.answer.Answer.TheVariants as answer;
 ghost use Rattle.reports.specs.Building.{Builds};
@@ -14,14 +13,14 @@ use walks::ways::Walk;
 
 // The answer to a call that was taken, or the refusal.
 pub(crate) fn told(given: Result<Answer, Refusal>) -> Answer
-    ensures { MatchResult given (λ a. result ≡ a) (λ e. result ≡ answer.Refused (number_of e)) }
+    ensures { MatchResult given (λ a. result ≡ a) (λ e. result ≡ answer.Refused e) }
 {
-    given.unwrap_or_else(|refusal| Answer::Refused(refusal.number()))
+    given.unwrap_or_else(|refusal| Answer::Refused(refusal))
 }
 
 // The answer to a call that gives a charge.
 fn charged<C: Figured>(given: Result<C, Refusal>) -> Answer
-    ensures { MatchResult given (λ v. result ≡ answer.Charge (C.Figured.shows v)) (λ e. result ≡ answer.Refused (number_of e)) }
+    ensures { MatchResult given (λ v. result ≡ answer.Charge (C.Figured.shows v)) (λ e. result ≡ answer.Refused e) }
 {
     told(given.map(|charge| Answer::Charge(charge.figure())))
 }

@@ -61,16 +61,13 @@ pub fn sit<C: Figured, W: Walk<C>>(
 {
     let number = ticket.unwrap_or(desk.number());
     let given = desk.sit(sheet, number, steps, scratch);
-    told(given.map(|sat| Answer::Sat {
-        made: sat.made,
-        finished: sat.finished,
-    }))
+    told(given.map(|sat| Answer::Sat(sat)))
 }
 
 // What is printed of a walk that ended: of the row, the settings of so many modules.
 fn closing<C: Figured>(closed: Closed<C>, row: [u8; 20], modules: usize) -> Closing
     requires { modules ≤ 20 }
-    ensures outcome { result.outcome ≡ (fixed closed.outcome).number }
+    ensures outcome { result.outcome ≡ closed.outcome }
     ensures charge { result.charge ≡ C.Figured.shows closed.charge }
     ensures steps { result.steps ≡ closed.steps }
     ensures setup { result.setup ≡ setup_told (fixed closed.outcome).with_setup row modules }
@@ -80,7 +77,7 @@ fn closing<C: Figured>(closed: Closed<C>, row: [u8; 20], modules: usize) -> Clos
         len: modules as u8,
     };
     Closing {
-        outcome: closed.outcome.number(),
+        outcome: closed.outcome,
         charge: closed.charge.figure(),
         steps: closed.steps,
         setup: closed.outcome.has_setup().then_some(setup),
@@ -99,7 +96,7 @@ pub fn close<C: Figured, W: Walk<C>>(desk: &mut Desk<C, W>, ticket: Option<u32>)
     let mut row = [0u8; 20];
     match desk.close(number, &mut row) {
         Ok(closed) => Answer::Closed(closing(closed, row, modules)),
-        Err(refusal) => Answer::Refused(refusal.number()),
+        Err(refusal) => Answer::Refused(refusal),
     }
 }
 

@@ -1,5 +1,6 @@
 -- The text of a charge, of a setup, and of how a walk ended.
 use Rattle.std.specs.Prelude.{ℕ, List, ◌++◌, map, take, Some, None, codes, decimal, Option}
+use Rattle.walks.specs.Outcomes.{fixed}
 use Rattle.words.specs.Words.{after_spaces}
 use Rattle.told.specs.declared.figure.Figure.{Figure}
 use Rattle.told.specs.declared.figure.Figure.TheVariants.{One, Two}
@@ -22,4 +23,4 @@ ended_text o x n (Some s) = codes "outcome " ++ (decimal o ++ (codes " charge " 
 
 -- how a walk ended
 abbrev pub closing_text : Closing → List ℕ
-closing_text x = ended_text x.outcome x.charge x.steps x.setup
+closing_text x = ended_text (fixed x.outcome).number x.charge x.steps x.setup

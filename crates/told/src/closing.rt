@@ -4,6 +4,7 @@ ghost use Rattle.std.specs.Prelude.{Some};
 
 use crate::figure::Figure;
 use std::fmt;
+use walks::outcome::Outcome;
 
 /// A setup as it is printed: the first `len` of twenty settings.
 // Stays: twenty bytes and a length, since what an answer holds has no heap.
@@ -13,11 +14,11 @@ pub struct Setup {
     pub len: u8,
 }
 
-/// What a walk had come to when it was closed: the number of its outcome, the charge of its best setup, or its ceiling
+/// What a walk had come to when it was closed: its outcome, the charge of its best setup, or its ceiling
 /// where it has none, the steps that it made, and that setup.
 #[derive(Clone, Copy)]
 pub struct Closing {
-    pub outcome: u8,
+    pub outcome: Outcome,
     pub charge: Figure,
     pub steps: u64,
     pub setup: Option<Setup>,
@@ -45,6 +46,7 @@ impl fmt::Display for Closing {
             steps,
             setup,
         } = *self;
+        let outcome = outcome.number();
         match setup {
             None => write!(f, "outcome {outcome} charge {charge} steps {steps}"),
             Some(setup) => write!(
