@@ -18,30 +18,29 @@ fn print(rt: &HostRuntime, line: &str, answer: Answer) -> io::Result<()> {
 
 // Prints the close of a walk, where one was open, as if the line `close` stood there.
 fn print_close(rt: &HostRuntime, closed: Option<Closing>) -> io::Result<()> {
-    match closed {
-        None => Ok(()),
-        Some(closing) => print(rt, "close", Answer::Closed(closing)),
-    }
+    let Some(closing) = closed else {
+        return Ok(());
+    };
+    print(rt, "close", Answer::Closed(closing))
 }
 
 // Prints what a line is told.
 fn print_told(rt: &HostRuntime, line: &str, told: Option<Told>) -> io::Result<()> {
-    match told {
-        None => Ok(()),
-        Some(told) => {
-            print_close(rt, told.closed)?;
-            print(rt, line, told.answer)
-        }
-    }
+    let Some(told) = told else {
+        return Ok(());
+    };
+    print_close(rt, told.closed)?;
+    print(rt, line, told.answer)
 }
 
-/// Follows the lines of standard input, a script of the vocabulary, and prints each call with its answer. What is open at the end is let go, and its
-/// walk closed, also where a line cannot be read or printed.
+/// Follows the lines of standard input, a script of the vocabulary, and prints each call with its answer. What is open at the
+/// end is let go, and its walk closed, also where a line cannot be read or printed.
 pub fn perform(rt: &HostRuntime, vocabulary: Vocabulary) -> io::Result<()> {
     let heap = rt.alloc();
     let mut sheet = vec![in heap; 0u16; ENTRIES]?;
     let lines = BufReader::new(heap, rt.stdin())?.lines(heap);
     let mut job = None;
+    // Stays: no `?` in this loop, since what is open holds a ticket, and is let go behind it.
     let mut done = Ok(());
     for line in lines {
         match line {
