@@ -15,6 +15,7 @@ pub trait Bound<C: Charge>: Drop {
     // the floor at a beginning
     ghost floor: { Self → Modules → List ℕ → List ℕ → C };
 
+    // Stays: a beginning is handed to each method whole, as twenty bytes and a length, and the sheet and the scratch are lent.
     /// The floor at the beginning in the first `len` bytes of `path`. A bound of your own gives this one; what it leaves in
     /// the scratch is free.
     fn floor_of(

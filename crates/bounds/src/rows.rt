@@ -5,6 +5,7 @@ ghost use Rattle.tables.specs.Modules.{allows};
 
 use tables::modules::Modules;
 
+// Stays: that the scratch has 192 places is in each clause on it, since it is a slice that the caller lends to each call.
 /// The place of the answer for setting `k` of module `j`.
 pub fn answer_place(j: usize, k: u8) -> usize
     requires { (j < 20) × (k < 8) }

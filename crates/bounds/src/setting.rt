@@ -56,8 +56,8 @@ pub trait SettingBound<C: Charge>: Bound<C> {
         for j in len..modules.count() {
             for k in 0..8 {
                 if modules.allows(j, k) {
-                    let more = self.answer_of(modules, sheet, path, len, j, k, room);
-                    scratch[answer_place(j, k)] = more;
+                    let at = answer_place(j, k);
+                    scratch[at] = self.answer_of(modules, sheet, path, len, j, k, room);
                 }
             }
         }

@@ -66,7 +66,7 @@ fn write_answers<C: Charge>(modules: &Modules, start: C, d: usize, scratch: &mut
 }
 
 /// Writes the answer for each allowed setting of each later module; gives the floor.
-pub fn prepare<C: Charge, F: Fn(usize, u8) -> C>(begun: &Begun, count: F, scratch: &mut [C]) -> C
+pub fn prepare_by<C: Charge, F: Fn(usize, u8) -> C>(begun: &Begun, count: F, scratch: &mut [C]) -> C
     requires counted { MayCount (F.pre count) begun.now.len begun.now.modules.now.count }
     requires room { 192 ≤ length scratch.old }
     ensures { (f : ℕ → ℕ → C.Charge.kind.V) → Counts C.Charge.means (F.post count) f begun.now.len begun.now.modules.now.count → Prepared C.Charge.kind C.Charge.means begun.now.modules.now begun.now.sheet.now (take begun.now.len begun.now.path.now) f begun.now.len (C.Charge.means result) scratch.new }

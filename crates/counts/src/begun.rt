@@ -71,7 +71,7 @@ impl Begun<'_> {
     }
 
     /// The past charge joined with the least count of each later module.
-    pub fn floor<C: Charge, F: Fn(usize, u8) -> C>(&self, count: F) -> C
+    pub fn floor_by<C: Charge, F: Fn(usize, u8) -> C>(&self, count: F) -> C
         requires { MayCount (F.pre count) self.now.len self.now.modules.now.count }
         ensures { (value : ℕ → ℕ → C.Charge.kind.V) → Counts C.Charge.means (F.post count) value self.now.len self.now.modules.now.count → C.Charge.means result ≡ floor_over C.Charge.kind self.now.modules.now self.now.sheet.now (allows self.now.modules.now) value (take self.now.len self.now.path.now) }
     {

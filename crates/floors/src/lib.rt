@@ -9,7 +9,7 @@ ghost use Rattle.counts.proofs.Sound.{past_sound, counted_sound, counted_with_so
 use bounds::bound::Bound;
 use bounds::setting::{SettingBound, prepared_answer};
 use charges::Charge;
-use count_table::prepare;
+use count_table::prepare_by;
 use counts::begun::Begun;
 use counts::past;
 use tables::modules::Modules;
@@ -18,13 +18,15 @@ use tables::modules::Modules;
 #[derive(Clone, Copy)]
 pub struct Past {}
 
-/// The past charge joined, for each later module, with the least count of an allowed setting: of the forward counts, or
-/// with `DIRECTED` of both counts, the forward count joined with the directed count.
+/// The past charge joined, for each later module, with the least count of an allowed setting: its forward count, or with
+/// `DIRECTED` both its counts joined.
 #[derive(Clone, Copy)]
 pub struct Counted<const DIRECTED: bool> {}
 
+/// The bound by forward counts.
 pub type Forward = Counted<false>;
 
+/// The bound by both counts.
 pub type Directed = Counted<true>;
 
 impl<C: Charge> Bound<C> for Past {
@@ -70,9 +72,9 @@ impl<C: Charge, const DIRECTED: bool> Bound<C> for Counted<DIRECTED> {
             len,
         };
         if DIRECTED {
-            begun.floor(|j, k| begun.both_counts(j, k))
+            begun.floor_by(|j, k| begun.both_counts(j, k))
         } else {
-            begun.floor(|j, k| begun.forward_count(j, k))
+            begun.floor_by(|j, k| begun.forward_count(j, k))
         }
     }
 }
@@ -114,9 +116,9 @@ impl<C: Charge, const DIRECTED: bool> SettingBound<C> for Counted<DIRECTED> {
             len,
         };
         if DIRECTED {
-            prepare(begun, |j, k| begun.both_counts(j, k), scratch)
+            prepare_by(begun, |j, k| begun.both_counts(j, k), scratch)
         } else {
-            prepare(begun, |j, k| begun.forward_count(j, k), scratch)
+            prepare_by(begun, |j, k| begun.forward_count(j, k), scratch)
         }
     }
 }

@@ -22,7 +22,7 @@ returns-then-this-ne0 g c =
     let sheet = c.args.sheet.now in
     let p = take c.args.len c.args.path in
     told K g.C.Charge.means g.C.Charge.made g.met.C.Charge.stands m sheet p (allows m) true (ap not (ne_eqb _ _ c.if-this-ne0.true))
-    (c.floor.ensures (both K m sheet p) (λ j k from below small r gave. search rules))
+    (c.floor_by.ensures (both K m sheet p) (λ j k from below small r gave. search rules))
 
 pub returns-else-this-ne0 : goal.returns-else-this-ne0
 returns-else-this-ne0 g c =
@@ -31,4 +31,4 @@ returns-else-this-ne0 g c =
     let sheet = c.args.sheet.now in
     let p = take c.args.len c.args.path in
     told K g.C.Charge.means g.C.Charge.made g.met.C.Charge.stands m sheet p (allows m) false (ap not (eq-eqb _ _ c.if-this-ne0.false))
-    (c.floor-else-this-ne0.ensures (forward K sheet p) (λ j k from below small r gave. search rules))
+    (c.floor_by-else-this-ne0.ensures (forward K sheet p) (λ j k from below small r gave. search rules))

@@ -21,7 +21,7 @@ returns-then-this-ne0 g c =
     let m = c.args.modules.now in
     let sheet = c.args.sheet.now in
     let p = take c.args.len c.args.path in
-    let prepared = c.prepare.ensures (both K m sheet p) (λ j k from below small r gave. search rules) in
+    let prepared = c.prepare_by.ensures (both K m sheet p) (λ j k from below small r gave. search rules) in
     record {
       answers = λ j from below k small allowed z.
           told K g.C.Charge.means g.C.Charge.made g.met.C.Charge.stands m sheet p (only m j k) true (ap not (ne_eqb _ _ c.if-this-ne0.true)) (prepared.answers j from below k small allowed z);
@@ -34,7 +34,7 @@ returns-else-this-ne0 g c =
     let m = c.args.modules.now in
     let sheet = c.args.sheet.now in
     let p = take c.args.len c.args.path in
-    let prepared = c.prepare-else-this-ne0.ensures (forward K sheet p) (λ j k from below small r gave. search rules) in
+    let prepared = c.prepare_by-else-this-ne0.ensures (forward K sheet p) (λ j k from below small r gave. search rules) in
     record {
       answers = λ j from below k small allowed z.
           told K g.C.Charge.means g.C.Charge.made g.met.C.Charge.stands m sheet p (only m j k) false (ap not (eq-eqb _ _ c.if-this-ne0.false)) (prepared.answers j from below k small allowed z);

@@ -17,10 +17,10 @@ loop-k-preserved g c =
     let gives : ℕ → C → C → Type 0 = λ i _ x. means x ≡ means (g.Self.SettingBound.answer c.args.self.now m c.args.sheet.now (take c.args.len c.args.path) j i) in
     elim c.if-allows.branch [
       | then-allows w ↦
-          let x = w.answer_of-more.result in
+          let x = w.answer_of.result in
           let within : 8 * j + k < length xs = omega (arith, m.few, (begun m c.args.sheet.now c.args.path c.args.len (length c.args.scratch.now) c.requires).roomy) in
           changing_more (allows m j) gives j before k xs c.if-allows.scratch x (omega arith) within
-          (w.scratch-is ∙ ap (λ q. set xs q x) w.answer_place.ensures) (λ z. w.answer_of-more.ensures) c.loop-k.invariant
+          (w.scratch-is ∙ ap (λ q. set xs q x) w.answer_place-at.ensures) (λ z. w.answer_of.ensures) c.loop-k.invariant
       | else-allows w ↦
           subst (Changing (allows m j) gives j before (k + 1)) (sym w.scratch-is)
           (changing_skips (allows m j) gives j before k xs (sym w.if-allows.ensures) c.loop-k.invariant)

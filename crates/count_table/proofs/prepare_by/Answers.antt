@@ -6,7 +6,7 @@ use Rattle.counts.specs.Floors.{past_charge}
 use Rattle.counts.specs.Least.{least}
 use Rattle.count_table.proofs.Choosing.{floor_with_is}
 use Rattle.counts.proofs.Taking.{taken}
-use Rattle.count_table.proofs.prepare.Goals as goal
+use Rattle.count_table.proofs.prepare_by.Goals as goal
 
 pub returns : goal.returns
 returns g c =

@@ -5,7 +5,7 @@ use Rattle.counts.specs.Floors.{past_charge}
 use Rattle.counts.specs.Least.{least}
 use Rattle.counts.proofs.Joining.{from_step, join_from_none}
 use Rattle.counts.proofs.Taking.{taken}
-use Rattle.counts.proofs.begun.Begun.floor.Goals as goal
+use Rattle.counts.proofs.begun.Begun.floor_by.Goals as goal
 
 pub loop-j-init : goal.loop-j-init
 loop-j-init g c = λ value counts.

@@ -4,7 +4,7 @@ use Rattle.tables.specs.Modules.{allows}
 use Rattle.counts.specs.Counting.{Counts}
 use Rattle.counts.specs.Floors.{past_charge}
 use Rattle.counts.specs.Least.{least}
-use Rattle.counts.proofs.begun.Begun.floor.Given as goal
+use Rattle.counts.proofs.begun.Begun.floor_by.Given as goal
 
 abbrev pub invariant-loop-j : goal.invariant-loop-j
 invariant-loop-j g l =
