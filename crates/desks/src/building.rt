@@ -16,6 +16,7 @@ use jobs::job::Job;
 use jobs::refusal::Refusal;
 use walks::ways::{Both, Plain, Walk};
 
+// Stays: each of the two opens another kind of job, and is one expression.
 impl<C: Charge, B: Bound<C>> Desk<C, Plain<B>> {
     /// A desk with a job without modules, for plain walks alone.
     pub fn open_plain(number: u32, bound: B) -> Desk<C, Plain<B>>

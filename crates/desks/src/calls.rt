@@ -15,6 +15,7 @@ use walks::outcome::Closed;
 use walks::ways::{Both, Walk};
 
 // Keeps a ticket where none is.
+// Stays: a ticket may not be let go, so nothing can be assigned over it, and what was there is looked at.
 fn keep(held: &mut Option<Ticket>, ticket: Ticket)
     requires { held.old ≡ None }
     ensures { held.new ≡ Some ticket }
@@ -25,6 +26,7 @@ fn keep(held: &mut Option<Ticket>, ticket: Ticket)
     }
 }
 
+// Stays: each call says by itself what of the job it leaves as it was, under the names that the job's own calls have.
 impl<C: Charge, W: Walk<C>> Desk<C, W> {
     // Why a close with the ticket of another job is refused.
     fn refused(&mut self, ticket: u32, row: &mut [u8]) -> Refusal
@@ -96,6 +98,7 @@ impl<C: Charge, W: Walk<C>> Desk<C, W> {
         let Some(own) = self.held.take_if(|own| own.number() == ticket) else {
             return Err(self.refused(ticket, row));
         };
+        // Stays: to put a ticket back is a step, which a match says more plainly than a closure in `map_err`.
         match self.job.close(own, row) {
             Ok(closed) => Ok(closed),
             Err(Unclosed { refusal, ticket }) => {

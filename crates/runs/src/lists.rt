@@ -12,6 +12,7 @@ use jobs::refusal::Refusal;
 use walks::ways::Walk;
 
 // What was told, or the refusal.
+// Stays: `unwrap_or_else(Answer::Refused)` gets no proof, as its result names a type that its argument does not.
 fn answered<C>(told: Result<Answer<C>, Refusal>) -> Answer<C>
     ensures { result ≡ answered told }
 {
@@ -36,6 +37,7 @@ pub(crate) fn carry_out_all<C: Charge, W: Walk<C>, X: CallOn<C, W>>(
     ensures rest { drop result answers.new ≡ drop result answers.old }
 {
     let n = calls.len().min(answers.len());
+    // Stays: in a loop over a zip of `iter_mut` no invariant can name the answers that are written so far.
     for i in 0..n {
         answers[i] = answered(calls[i].carry_out(desk, sheet, memory, scratch));
     }

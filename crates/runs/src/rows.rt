@@ -5,6 +5,7 @@ ghost use Rattle.std.specs.Prelude.{◌≡◌, ◌+◌};
 use crate::call::Row;
 
 impl Row {
+    // Stays: a part of a slice that is lent for writing gets no proof of what the memory ends as, so this gives its place.
     // Where the row begins in the memory and where it ends, with as many of its bytes as are there.
     pub(crate) fn place(self, memory: &[u8]) -> (usize, usize)
         ensures from { result.0 ≡ begin_of memory.now self }

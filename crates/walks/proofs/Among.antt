@@ -7,9 +7,9 @@ use Rattle.tables.specs.Setups.{Holds}
 use Rattle.tables.specs.Sheet.{Whole}
 use Rattle.bounds.specs.Beginnings.{allows_all, begins, answerable}
 use Rattle.walks.specs.Trails.{Live, AmongLive, tree, base, place}
-use Rattle.walks.proofs.Trails.{tree_more, times_more}
+use Rattle.walks.proofs.Trails.{trail, tree_more, times_more}
 
-module _ (m : Modules) (path : List ℕ) (live : List (List ℕ)) (d : ℕ) (h : AmongLive m path live d) where
+module _ (m : Modules) (path : List ℕ) (live : List (List ℕ)) (d : ℕ) (h : AmongLive m (trail path live d)) where
   -- each setting is allowed
   pub allowed_at : (i : ℕ) → i < d → allows m i (get_or path i 0) ≡ true
   allowed_at i l = (h.lives i l).allowed i (get_or path i 0) (omega arith) (let w = h.within in omega arith) (h.few i l) (h.taken i l)
@@ -34,7 +34,7 @@ module _ (m : Modules) (path : List ℕ) (live : List (List ℕ)) (d : ℕ) (h :
   }
 
 -- what is live below a beginning
-pub live_below : (m : Modules) (path : List ℕ) (live : List (List ℕ)) (i : ℕ) → AmongLive m path live (suc i) → Live m (get_or live i []) (suc i)
+pub live_below : (m : Modules) (path : List ℕ) (live : List (List ℕ)) (i : ℕ) → AmongLive m (trail path live (suc i)) → Live m (get_or live i []) (suc i)
 live_below m path live i h =
     let l = h.lives i (omega arith) in
     record { some = λ j a b. l.some j (omega arith) b; byte = λ j a b. l.byte j (omega arith) b; allowed = λ j k a b c e. l.allowed j k (omega arith) b c e }

@@ -2,7 +2,6 @@ pub mod Bits
 pub mod Masks
 pub mod Trails
 pub mod Struck
-pub mod Kept
 pub mod Among
 pub mod Searches
 pub mod Steps

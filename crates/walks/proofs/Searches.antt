@@ -2,6 +2,7 @@
 use Rattle.std.proofs.Common.{◌≡◌, ℕ, zero, suc, ◌+◌, ◌-◌, ◌<◌, ◌≤◌, List, [], get_or, subst, arith}
 use Rattle.walks.specs.declared.state.Search.{Search}
 use Rattle.walks.specs.Trails.{Live, AmongLive, base, place}
+use Rattle.walks.proofs.Trails.{trail}
 use Rattle.walks.proofs.Among.{place_few, tree_small, live_below}
 
 pub steps_fit : {C : Type 0} (s : Search C) → s.steps + 1 < 18446744073709551616
@@ -19,7 +20,7 @@ step_later path path' (suc d) d' steps l h m = omega arith
 pub live_here : {C : Type 0} (s : Search C) → 1 ≤ s.trail.len → Live s.modules (get_or s.trail.live (s.trail.len - 1) []) s.trail.len
 live_here s one = go s.trail.len one s.among
   where
-    go : (d : ℕ) → 1 ≤ d → AmongLive s.modules s.trail.path s.trail.live d → Live s.modules (get_or s.trail.live (d - 1) []) d
+    go : (d : ℕ) → 1 ≤ d → AmongLive s.modules (trail s.trail.path s.trail.live d) → Live s.modules (get_or s.trail.live (d - 1) []) d
     go zero l h = absurd (omega arith)
     go (suc i) l h =
         let e : i ≡ suc i - 1 = omega arith in

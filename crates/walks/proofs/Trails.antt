@@ -4,8 +4,12 @@ use Rattle.std.proofs.lemmas.Nat.{mul-le}
 use Rattle.std.proofs.lemmas.Bool.{cases_lt}
 use Rattle.theory.specs.Machine.{level, next, down}
 use Rattle.tables.specs.declared.modules.Modules.{Modules}
+use Rattle.walks.specs.declared.trail.Trail.{Trail}
 use Rattle.walks.specs.Settings.{has, settings_from, domains_from, row_domains}
 use Rattle.walks.specs.Trails.{mask_at, levels, Live, AmongLive, tree, base, GoesOn, GoesDown}
+
+abbrev pub trail : List ℕ → List (List ℕ) → ℕ → Trail
+trail path live d = record { path = path; len = d; live = live }
 
 -- a trail is as its settings and rows are
 pub levels_same : (path path' : List ℕ) (live live' : List (List ℕ)) (n d : ℕ)
@@ -87,7 +91,7 @@ module _ (path : List ℕ) (live : List (List ℕ)) (i k : ℕ) (long : i < leng
       let b = subst (λ x. base path d < base path i + 1 + get_or path i 0 * tree (19 - i) + tree x) t h.below in
       omega arith
 
-  pub live_here : (m : Modules) (d : ℕ) → i < d → k < 8 → has (mask_at path live i i) k ≡ true → AmongLive m path live d → AmongLive m (set path i k) live (suc i)
+  pub live_here : (m : Modules) (d : ℕ) → i < d → k < 8 → has (mask_at path live i i) k ≡ true → AmongLive m (trail path live d) → AmongLive m (trail (set path i k) live (suc i))
   live_here m d l small h a = record {
     within = let w = a.within in omega arith;
     few = λ j b. at j b (λ x. x < 8) small (λ c. a.few j (omega arith));
@@ -109,7 +113,7 @@ module _ (path : List ℕ) (live : List (List ℕ)) (i k : ℕ) (long : i < leng
             subst (λ x. has (mask_at path live x x) (get_or (set path i k) x 0) ≡ true) e (subst (λ x. has (mask_at path live i i) x ≡ true) (sym (get_or-set_same path i k 0 long)) h)
       ]
 
-pub live_none : (m : Modules) (path : List ℕ) (live : List (List ℕ)) → AmongLive m path live 0
+pub live_none : (m : Modules) (path : List ℕ) (live : List (List ℕ)) → AmongLive m (trail path live 0)
 live_none m path live = record {
   within = omega arith;
   few = λ i l. absurd (omega arith);
@@ -127,14 +131,14 @@ settings_after mask a xs e =
 -- on to the setting k of module i
 pub goes_here : (path : List ℕ) (live : List (List ℕ)) (d i k : ℕ) → i < length path → i < d → d ≤ 20 → get_or path i 0 + 1 ≤ k → k < 8 → has (mask_at path live i i) k ≡ true
     → settings_from (has (mask_at path live i i)) (get_or path i 0 + 1) (8 - (get_or path i 0 + 1)) ≡ k ∷ settings_from (has (mask_at path live i i)) (suc k) (7 - k)
-    → Passes path live d (suc i) → GoesOn path live d (set path i k) live (suc i)
+    → Passes path live d (suc i) → GoesOn (trail path live d) (trail (set path i k) live (suc i))
 goes_here path live d i k long l few above small h e p = record {
   next_one = λ n. next_here path live n i k long (settings_after (mask_at path live i i) (get_or path i 0) _ e) ∙ sym (p.nexts n);
   among = λ m a. live_here path live i k long (omega arith) m d l small h a;
   later = place_here path live i k long (omega arith) d (omega arith) p;
 }
 
-pub goes_out : (path : List ℕ) (live : List (List ℕ)) (d : ℕ) → Passes path live d 0 → GoesOn path live d path live 0
+pub goes_out : (path : List ℕ) (live : List (List ℕ)) (d : ℕ) → Passes path live d 0 → GoesOn (trail path live d) (trail path live 0)
 goes_out path live d p = record {
   next_one = λ n. sym (p.nexts n);
   among = λ m a. live_none m path live;
@@ -153,9 +157,9 @@ domains_first row d n xs l e =
     let one : n - d ≡ suc (n - suc d) = omega arith in
     ap (row_domains row d) one ∙ domains_more (λ i. has (get_or row i 0)) d (n - suc d) ∙ ap (λ x. x ∷ row_domains row (suc d) (n - suc d)) e
 
-pub down_none : (path : List ℕ) (live : List (List ℕ)) (d : ℕ) (row path' : List ℕ) (live' : List (List ℕ)) (d' : ℕ) → settings_from (has (get_or row d 0)) 0 8 ≡ []
-    → GoesOn path live d path' live' d' → GoesDown path live d row path' live' d'
-down_none path live d row path' live' d' e g = record {
+pub down_none : (path : List ℕ) (live : List (List ℕ)) (d : ℕ) (row : List ℕ) (after : Trail) → settings_from (has (get_or row d 0)) 0 8 ≡ []
+    → GoesOn (trail path live d) after → GoesDown (trail path live d) row after
+down_none path live d row after e g = record {
   first_one = λ n l. g.next_one n ∙ sym (ap (λ ds. down ds (levels path live n d)) (domains_first row d n [] l e));
   among = λ m l r a. g.among m a;
   later = g.later;
@@ -181,7 +185,7 @@ module _ (path : List ℕ) (live : List (List ℕ)) (d k : ℕ) (row : List ℕ)
   ]
 
   pub down_to : k < 8 → has (get_or row d 0) k ≡ true → settings_from (has (get_or row d 0)) 0 8 ≡ k ∷ settings_from (has (get_or row d 0)) (suc k) (7 - k)
-      → GoesDown path live d row (set path d k) (set live d row) (suc d)
+      → GoesDown (trail path live d) row (trail (set path d k) (set live d row) (suc d))
   down_to small h e = record {
     first_one = λ n l.
         ap₂ ◌∷◌

@@ -85,7 +85,7 @@ module _ {C : Type 0} (K : Kind) (means : C → K.V) (sheet : List ℕ) (s mid o
   same_through h g = record { modules = g.modules ∙ h.modules; ahead = g.ahead ∙ h.ahead; ceiling = g.ceiling ∙ h.ceiling }
 
   pub weighs_on : (W : Walk K.V) → Takes → OnlyMoved mid out
-      → GoesOn mid.trail.path mid.trail.live mid.trail.len out.trail.path out.trail.live out.trail.len
+      → GoesOn mid.trail out.trail
       → 1 ≤ s.trail.len → s.trail.len ≡ s.modules.count → s.trail.len ≤ length s.trail.path
       → state_of K means out ≡ step (problem K s.modules sheet (means s.ceiling)) W (state_of K means s)
   weighs_on W h moved on one full long =

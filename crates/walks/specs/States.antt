@@ -11,7 +11,7 @@ use Rattle.tables.specs.Setups.{charge_of}
 use Rattle.walks.specs.declared.state.Best.{Best}
 use Rattle.walks.specs.declared.state.Search.{Search}
 use Rattle.walks.specs.Settings.{domains}
-use Rattle.walks.specs.Trails.{levels}
+use Rattle.walks.specs.Trails.{levels_of}
 
 -- what is sought on a sheet: the cheapest setup of allowed settings, below the ceiling
 abbrev pub problem : (K : Kind) → Modules → List ℕ → K.V → Problem K.V
@@ -36,7 +36,7 @@ limit_of s = charge_or s.ceiling s.best
 
 abbrev pub state_of : {C : Type 0} (K : Kind) → (C → K.V) → Search C → State K.V
 state_of K means s = record {
-  path = levels s.trail.path s.trail.live s.modules.count s.trail.len;
+  path = levels_of s.trail s.modules.count;
   limit = means (limit_of s);
   best = setup_of s.modules.count s.best;
   steps = s.steps;

@@ -3,6 +3,7 @@ use Rattle.std.specs.Prelude.{◌≡◌, ℕ, zero, suc, ◌+◌, ◌-◌, ◌*�
 use Rattle.theory.specs.Machine.{Level, level, next, down}
 use Rattle.tables.specs.declared.modules.Modules.{Modules}
 use Rattle.tables.specs.Modules.{allows}
+use Rattle.walks.specs.declared.trail.Trail.{Trail}
 use Rattle.walks.specs.Settings.{has, settings_from, row_domains}
 
 -- A trail: a path of settings, and for each i what is live of each module below the first i of them.
@@ -29,12 +30,12 @@ pub record Live (m : Modules) (row : List ℕ) (d : ℕ) : Type 0 where
   pub byte : (j : ℕ) → d ≤ j → j < m.count → slice_index row j < 256
   pub allowed : (j k : ℕ) → d ≤ j → j < m.count → k < 8 → has (slice_index row j) k ≡ true → allows m j k ≡ true
 
--- each of the first d settings is live among the modules, and so is something of each later module
-pub record AmongLive (m : Modules) (path : List ℕ) (live : List (List ℕ)) (d : ℕ) : Type 0 where
-  pub within : d ≤ m.count
-  pub few : (i : ℕ) → i < d → slice_index path i < 8
-  pub taken : (i : ℕ) → i < d → has (mask_at path live i i) (slice_index path i) ≡ true
-  pub lives : (i : ℕ) → i < d → Live m (slice_index_or live i []) i
+-- each setting of the trail is live among the modules, and so is something of each later module
+pub record AmongLive (m : Modules) (t : Trail) : Type 0 where
+  pub within : t.len ≤ m.count
+  pub few : (i : ℕ) → i < t.len → slice_index t.path i < 8
+  pub taken : (i : ℕ) → i < t.len → has (mask_at t.path t.live i i) (slice_index t.path i) ≡ true
+  pub lives : (i : ℕ) → i < t.len → Live m (slice_index_or t.live i []) i
 
 -- how many beginnings start with one, itself among them, if d modules of eight settings can follow: 1 + 8 + 64 and so on
 unfoldable pub tree : ℕ → ℕ
@@ -50,14 +51,18 @@ abbrev pub place : List ℕ → ℕ → ℕ
 place path zero = tree 20
 place path (suc i) = base path (suc i)
 
+-- the settings of a trail, among n modules
+abbrev pub levels_of : Trail → ℕ → List Level
+levels_of t n = levels t.path t.live n t.len
+
 -- a trail went on as a walk's path does, among live settings, and stands later
-pub record GoesOn (path : List ℕ) (live : List (List ℕ)) (d : ℕ) (path' : List ℕ) (live' : List (List ℕ)) (d' : ℕ) : Type 0 where
-  pub next_one : (n : ℕ) → levels path' live' n d' ≡ next (levels path live n d)
-  pub among : (m : Modules) → AmongLive m path live d → AmongLive m path' live' d'
-  pub later : base path d < place path' d'
+pub record GoesOn (before after : Trail) : Type 0 where
+  pub next_one : (n : ℕ) → levels_of after n ≡ next (levels_of before n)
+  pub among : (m : Modules) → AmongLive m before → AmongLive m after
+  pub later : base before.path before.len < place after.path after.len
 
 -- it went down to the first setting of the next module that the row has live, or on if there is none
-pub record GoesDown (path : List ℕ) (live : List (List ℕ)) (d : ℕ) (row path' : List ℕ) (live' : List (List ℕ)) (d' : ℕ) : Type 0 where
-  pub first_one : (n : ℕ) → d < n → levels path' live' n d' ≡ down (row_domains row d (n - d)) (levels path live n d)
-  pub among : (m : Modules) → d < m.count → Live m row d → AmongLive m path live d → AmongLive m path' live' d'
-  pub later : base path d < place path' d'
+pub record GoesDown (before : Trail) (row : List ℕ) (after : Trail) : Type 0 where
+  pub first_one : (n : ℕ) → before.len < n → levels_of after n ≡ down (row_domains row before.len (n - before.len)) (levels_of before n)
+  pub among : (m : Modules) → before.len < m.count → Live m row before.len → AmongLive m before → AmongLive m after
+  pub later : base before.path before.len < place after.path after.len

@@ -7,6 +7,7 @@ ghost use Rattle.theory.specs.Machine.{next, down};
 use crate::trail::Trail;
 
 // Whether setting `k` is in the mask.
+// Stays: `Modules::allows` tests a bit too, but of a mask that stands in its own record of a module.
 pub(crate) fn has(mask: u8, k: u8) -> bool
     requires { k < 8 }
     ensures { result ≡ has mask k }
@@ -27,7 +28,7 @@ impl Trail {
     pub(crate) fn next(&mut self)
         requires within { self.old.len ≤ 20 }
         requires few { (i : ℕ) → i < self.old.len → slice_index self.old.path i < 8 }
-        ensures { GoesOn self.old.path self.old.live self.old.len self.new.path self.new.live self.new.len }
+        ensures { GoesOn self.old self.new }
     {
         for i in (0..self.len).rev() {
             if let Some(k) = lowest(self.live[i][i], self.path[i] + 1) {
@@ -43,7 +44,7 @@ impl Trail {
     pub(crate) fn down(&mut self, row: [u8; 20])
         requires within { self.old.len < 20 }
         requires few { (i : ℕ) → i < self.old.len → slice_index self.old.path i < 8 }
-        ensures { GoesDown self.old.path self.old.live self.old.len row self.new.path self.new.live self.new.len }
+        ensures { GoesDown self.old row self.new }
     {
         match lowest(row[self.len], 0) {
             Some(k) => {

@@ -10,6 +10,7 @@ use charges::Charge;
 use tables::modules::Modules;
 
 // The masks of the modules.
+// Stays: `array::from_fn` would have to ask of each of the twenty places whether a module has it.
 fn masks(modules: &Modules) -> [u8; 20]
     ensures { (j : ℕ) → j < modules.now.count → slice_index result j ≡ mask_of modules.now j }
 {

@@ -23,7 +23,7 @@ pub struct Search<C> {
     pub(crate) trail: Trail,
     pub(crate) best: Option<Best<C>>,
     pub(crate) steps: u64,
-    ghost among: { AmongLive modules trail.path trail.live trail.len },
+    ghost among: { AmongLive modules trail },
     ghost counted: { steps < place trail.path trail.len },
 }
 

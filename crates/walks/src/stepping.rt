@@ -16,7 +16,7 @@ impl<C: Charge> Search<C> {
     fn go_on(&mut self)
         requires { 1 ≤ self.old.trail.len }
         ensures moved { OnlyMoved self.old self.new }
-        ensures goes_on { GoesOn self.old.trail.path self.old.trail.live self.old.trail.len self.new.trail.path self.new.trail.live self.new.trail.len }
+        ensures goes_on { GoesOn self.old.trail self.new.trail }
     {
         self.trail.next();
         self.steps += 1;
@@ -27,7 +27,7 @@ impl<C: Charge> Search<C> {
         requires within { (1 ≤ self.old.trail.len) × (self.old.trail.len < self.old.modules.count) }
         requires live { Live self.old.modules row self.old.trail.len }
         ensures moved { OnlyMoved self.old self.new }
-        ensures goes_down { GoesDown self.old.trail.path self.old.trail.live self.old.trail.len row self.new.trail.path self.new.trail.live self.new.trail.len }
+        ensures goes_down { GoesDown self.old.trail row self.new.trail }
     {
         self.trail.down(row);
         self.steps += 1;

@@ -15,6 +15,7 @@ fn is_over<C: Charge>(answers: &[C], j: usize, k: u8, limit: C) -> bool
 
 // Strikes each live setting of a later module, from `from` on, whose answer is not below the limit. Leaves off at the
 // first module with every setting struck, and gives `None` then.
+// Stays: striking is labelled nested loops, which are left from inside.
 pub(crate) fn strike<C: Charge>(
     answers: &[C],
     row: [u8; 20],

@@ -47,6 +47,7 @@ pub trait Walk<C: Charge>: Drop {
             (C.Charge.means (floor self.now modules.now sheet.now (take len path)))
             C.Charge.kind.zero };
 
+    // Stays: a beginning is handed on whole, as twenty bytes and a length, and sheet, row and scratch are lent by the caller.
     /// What is left of `row`, the live settings, once the beginning is opened, looking ahead or not; `None` where it is
     /// closed.
     fn opened(
@@ -124,6 +125,7 @@ impl<C: Charge, B: Bound<C>> Walk<C> for Plain<B> {
     }
 }
 
+// Stays: `floor_at` is one line in both, and `Plain` asks less of its bound than `Both`.
 impl<C: Charge, B: SettingBound<C>> Walk<C> for Both<B> {
     ghost floor = { λ w. B.Bound.floor w.bound };
 
@@ -141,8 +143,7 @@ impl<C: Charge, B: SettingBound<C>> Walk<C> for Both<B> {
         len: usize,
         scratch: &mut [C],
     ) -> C {
-        let bound = &self.bound;
-        bound.floor_at(modules, sheet, path, len, scratch)
+        self.bound.floor_at(modules, sheet, path, len, scratch)
     }
 
     fn opened(

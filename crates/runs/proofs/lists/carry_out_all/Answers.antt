@@ -1,25 +1,19 @@
-use Rattle.std.proofs.Common.{◌<◌, length, ◌∙◌, subst, arith}
-use Rattle.runs.specs.Does.{DoesBoth, answered}
+use Rattle.std.proofs.Common.{◌<◌, length, ◌∙◌, arith}
+use Rattle.runs.specs.Does.{answered}
 use Rattle.runs.specs.Stands.{stand_of}
 use Rattle.runs.proofs.Carried.{carried_more}
 use Rattle.runs.proofs.lists.carry_out_all.Goals as goal
 
 pub loop-i-preserved : goal.loop-i-preserved
 loop-i-preserved g c =
-    let first = c.args.desk.now in
     let d = c.loop-i.desk in
     let inv = c.loop-i.invariant in
-    let K = g.C.Charge.kind in
-    let means = g.C.Charge.means in
     let now = stand_of d c.loop-i.sheet c.loop-i.memory in
     let after = stand_of c.carry_out.new.desk c.carry_out.new.sheet c.carry_out.new.memory in
     let call = c.index-calls-i.result in
     let a = answered c.carry_out.result in
     let as_both = g.X.CallOn.as_both in
-    let does =
-    subst (λ n. DoesBoth K means (g.W.Walk.floor first.job.walks) (g.W.Walk.answer first.job.walks) first.job.number n now (as_both call) a after) inv.space
-    (subst (λ n. DoesBoth K means (g.W.Walk.floor first.job.walks) (g.W.Walk.answer first.job.walks) n (length c.loop-i.scratch) now (as_both call) a after) inv.number
-    (subst (λ w. DoesBoth K means (g.W.Walk.floor w) (g.W.Walk.answer w) d.job.number (length c.loop-i.scratch) now (as_both call) a after) inv.walks c.carry_out.ensures.does)) in
+    let does = rw (inv.walks, inv.number, inv.space) at c.carry_out.ensures.does in
     let in_calls : c.loop-i.i < length c.args.calls.now = omega (arith, c.loop-i-test.true, c.min-n.ensures) in
     let in_answers : c.loop-i.i < length c.loop-i.answers = omega (arith, c.loop-i-test.true, c.min-n.ensures, inv.carried.long) in
     record {

@@ -1,19 +1,11 @@
-use Rattle.std.proofs.Common.{◌≡◌, ◌+◌, ◌*◌, ◌<◌, length, sym, refl, ◌∙◌, subst, arith, rules}
+use Rattle.std.proofs.Common.{◌≡◌, ◌+◌, ◌*◌, ◌<◌, length, sym, ◌∙◌, subst, arith, rules}
 use Rattle.std.proofs.lemmas.Nat.{one_shl}
 use Rattle.std.proofs.lemmas.Bool.{both_ways}
-use Rattle.walks.specs.Opening.{under, answer_at, Leaves}
-use Rattle.walks.proofs.Struck.{Struck, struck_at, struck_none, struck_all, struck_on, struck_off, passes_dead, passes_under, not_over, is_over}
+use Rattle.walks.specs.Opening.{under, answer_at}
+use Rattle.walks.proofs.Struck.{Struck, struck_on, struck_off, passes_dead, passes_under, not_over, is_over}
 use Rattle.walks.proofs.striking.strike.Goals as goal
 use Rattle.walks.proofs.striking.strike.Goals.{then-has+then-is_over+else-still-j-eq0, else-has, else-has-via-then-has+else-is_over, else-has-via-else-has}
 use Rattle.walks.proofs.striking.strike.Goals.{else-modules-test, then-modules-test+then-loop-k-test+then-has+then-is_over+then-still-j-eq0}
-
-pub modules-init : goal.modules-init
-modules-init g c = (refl, struck_none _ _ _ _ _ _ _ (omega arith) c.requires.live c.requires.bytes)
-
-pub loop-k-init : goal.loop-k-init
-loop-k-init g c =
-    let e : 8 * c.modules.j ≡ 8 * c.modules.j + 0 = omega arith in
-    (c.modules.invariant.0, struck_at _ _ _ _ _ _ _ _ _ e c.modules.invariant.1)
 
 pub loop-k-preserved : goal.loop-k-preserved
 loop-k-preserved g c =
@@ -41,11 +33,6 @@ loop-k-preserved g c =
       ],
     )
 
-pub modules-preserved : goal.modules-preserved
-modules-preserved g c =
-    let e : 8 * c.modules.j + c.loop-k.k ≡ 8 * (c.modules.j + 1) = omega (arith, c.loop-k-test.false, c.loop-k.auto.k-end) in
-    (c.loop-k.invariant.0, struck_at _ _ _ _ _ _ _ _ _ e c.loop-k.invariant.1)
-
 pub returns-then-dead : goal.returns-then-dead
 returns-then-dead g c = elim c.modules-test.branch [
   | else-modules-test w ↦ absurd (both_ways c.modules-test.dead (w.dead-is ∙ c.modules.invariant.0) c.if-dead.true)
@@ -57,10 +44,4 @@ returns-then-dead g c = elim c.modules-test.branch [
       let long : c.modules.j < length w.loop-k.still = omega (arith, w.loop-k.invariant.1.long, c.requires.space.1, w.modules-test.true) in
       struck_off K limit answer c.args.row c.args.from c.args.count w.loop-k.still c.modules.j w.loop-k.k c.modules.auto.j w.modules-test.true w.loop-k-test.true w.loop-k.invariant.1
       long (sym w.if-has.ensures) (is_over (under K limit (answer c.modules.j w.loop-k.k)) w.if-is_over.ensures) _ (one_shl w.loop-k.k 8 w.loop-k-test.true) w.if-still-j-eq0.true
-]
-
-pub returns-else-dead : goal.returns-else-dead
-returns-else-dead g c = elim c.modules-test.branch [
-  | else-modules-test w ↦ subst (Leaves _ _ _ _ _ _) (sym w.still-is) (struck_all _ _ _ _ _ _ _ _ (omega (arith, w.modules-test.false)) c.modules.invariant.1)
-  | then-modules-test+then-loop-k-test+then-has+then-is_over+then-still-j-eq0 w ↦ absurd (both_ways c.modules-test.dead c.if-dead.false w.dead-is)
 ]

@@ -1,7 +1,7 @@
 use Rattle.std.proofs.Common.{◌≡◌, ℕ, List, length, take, sym, refl, ◌∙◌, arith, rules}
 use Rattle.walks.specs.Trails.{levels}
 use Rattle.walks.proofs.Among.{can_ask}
-use Rattle.walks.proofs.Looked.{live_left, goes_down, goes_past, looks}
+use Rattle.walks.proofs.Looked.{goes_down, goes_past, looks}
 use Rattle.walks.proofs.Searches.{live_here}
 use Rattle.walks.proofs.state.Search.look.Goals as goal
 
@@ -11,18 +11,6 @@ opened-requires g c =
     record {
       begun = can_ask s.modules s.trail.path s.trail.live s.trail.len s.among c.args.sheet.now (length c.args.scratch.now) c.requires.memory.0 c.requires.memory.1 c.requires.within.0;
       live = live_here s c.requires.within.0;
-    }
-
-pub go_down-requires : goal.go_down-requires
-go_down-requires g c =
-    let s = c.args.self.now in
-    let K = g.C.Charge.kind in
-    let floor : List ℕ → K.V = λ p. g.C.Charge.means (g.W.Walk.floor c.args.walks.now s.modules c.args.sheet.now p) in
-    let answer : List ℕ → ℕ → ℕ → K.V = λ p j k. g.C.Charge.means (g.W.Walk.answer c.args.walks.now s.modules c.args.sheet.now p j k) in
-    let p = take s.trail.len s.trail.path in
-    record {
-      within = c.requires.within;
-      live = live_left K _ (floor p) (answer p) _ s.trail.len s.modules.count c.requires.within.1 s.modules refl (live_here s c.requires.within.0) s.ahead c.in-Some.left c.in-Some.ensures.1;
     }
 
 pub returns-in-Some : goal.returns-in-Some

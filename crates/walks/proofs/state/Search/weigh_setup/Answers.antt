@@ -10,7 +10,7 @@ use Rattle.walks.proofs.state.Search.weigh_setup.Goals as goal
 
 -- what a weighing step owes, of what it takes into account and how it goes on
 weighed_and_on : {C : Type 0} (K : Kind) (means : C → K.V) (sheet : List ℕ) (s mid out : Search C) → OnlyMoved mid out
-    → GoesOn mid.trail.path mid.trail.live mid.trail.len out.trail.path out.trail.live out.trail.len
+    → GoesOn mid.trail out.trail
     → 1 ≤ s.trail.len → s.trail.len ≡ s.modules.count → s.trail.len ≤ length s.trail.path
     → Takes K means sheet s mid out
     → (SameWalk s out) × (out.steps ≡ s.steps + 1) × ((W : Walk K.V) → state_of K means out ≡ step (problem K s.modules sheet (means s.ceiling)) W (state_of K means s))

@@ -13,4 +13,4 @@ returns-in-Some c =
 pub returns-in-None : goal.returns-in-None
 returns-in-None c =
     let t = c.args.self.now in
-    down_none t.path t.live t.len c.args.row _ _ _ c.in-None.ensures c.next.ensures
+    down_none t.path t.live t.len c.args.row _ c.in-None.ensures c.next.ensures

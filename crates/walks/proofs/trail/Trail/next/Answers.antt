@@ -2,7 +2,7 @@ use Rattle.std.proofs.Common.{◌≡◌, ℕ, suc, ◌+◌, ◌-◌, ◌<◌, �
 use Rattle.walks.specs.declared.trail.Trail.{Trail}
 use Rattle.walks.specs.Settings.{has, settings_from}
 use Rattle.walks.specs.Trails.{mask_at, GoesOn}
-use Rattle.walks.proofs.Trails.{Passes, passes_none, passes_up, goes_here, goes_out, settings_after}
+use Rattle.walks.proofs.Trails.{trail, Passes, passes_none, passes_up, goes_here, settings_after}
 use Rattle.walks.proofs.trail.Trail.next.Goals as goal
 
 -- Of the trail t, which is still as it was: u is t.
@@ -13,14 +13,14 @@ module _ (t u : Trail) (e : u ≡ t) (few : (j : ℕ) → j < t.len → get_or t
   here : (k : ℕ) → length t.path ≡ 20 → Passes t.path t.live t.len i
       → (get_or u.path (i - 1) 0 + 1 ≤ k) × (k < 8) × (has (mask_at u.path u.live (i - 1) (i - 1)) k ≡ true)
       × (settings_from (has (mask_at u.path u.live (i - 1) (i - 1))) (get_or u.path (i - 1) 0 + 1) (8 - (get_or u.path (i - 1) 0 + 1)) ≡ k ∷ settings_from (has (mask_at u.path u.live (i - 1) (i - 1))) (suc k) (7 - k))
-      → GoesOn t.path t.live t.len (set u.path (i - 1) k) u.live (i - 1 + 1)
+      → GoesOn t (trail (set u.path (i - 1) k) u.live (i - 1 + 1))
   here k long p h =
       let one : suc (i - 1) ≡ i - 1 + 1 = omega arith in
       let back : i ≡ suc (i - 1) = omega arith in
       let f = subst (λ (x : Trail). (get_or x.path (i - 1) 0 + 1 ≤ k) × (k < 8) × (has (mask_at x.path x.live (i - 1) (i - 1)) k ≡ true)
       × (settings_from (has (mask_at x.path x.live (i - 1) (i - 1))) (get_or x.path (i - 1) 0 + 1) (8 - (get_or x.path (i - 1) 0 + 1)) ≡ k ∷ settings_from (has (mask_at x.path x.live (i - 1) (i - 1))) (suc k) (7 - k))) e h in
-      subst (λ (x : Trail). GoesOn t.path t.live t.len (set x.path (i - 1) k) x.live (i - 1 + 1)) (sym e)
-      (subst (GoesOn t.path t.live t.len (set t.path (i - 1) k) t.live) one
+      subst (λ (x : Trail). GoesOn t (trail (set x.path (i - 1) k) x.live (i - 1 + 1))) (sym e)
+      (subst (λ d. GoesOn t (trail (set t.path (i - 1) k) t.live d)) one
       (goes_here t.path t.live t.len (i - 1) k (omega arith) (omega arith) within f.0 f.1 f.2 f.3 (subst (Passes t.path t.live t.len) back p)))
 
   again : Passes t.path t.live t.len i
@@ -34,21 +34,8 @@ module _ (t u : Trail) (e : u ≡ t) (few : (j : ℕ) → j < t.len → get_or t
 pub loop-i-init : goal.loop-i-init
 loop-i-init c = (refl, passes_none _ _ _)
 
-pub overflow_add-self : goal.overflow_add-self
-overflow_add-self c = omega (arith, small c.args.self.now c.loop-i.self c.loop-i.invariant.0 c.requires.few c.requires.within c.loop-i.i c.loop-i-test.true c.loop-i.auto.i)
-
-pub lowest-requires : goal.lowest-requires
-lowest-requires c = omega (arith, small c.args.self.now c.loop-i.self c.loop-i.invariant.0 c.requires.few c.requires.within c.loop-i.i c.loop-i-test.true c.loop-i.auto.i)
-
 pub returns-in-Some : goal.returns-in-Some
 returns-in-Some c = here c.args.self.now c.loop-i.self c.loop-i.invariant.0 c.requires.few c.requires.within c.loop-i.i c.loop-i-test.true c.loop-i.auto.i c.in-Some.k (search rules) c.loop-i.invariant.1 c.in-Some.ensures
 
 pub loop-i-preserved : goal.loop-i-preserved
 loop-i-preserved c = (c.loop-i.invariant.0, again c.args.self.now c.loop-i.self c.loop-i.invariant.0 c.requires.few c.requires.within c.loop-i.i c.loop-i-test.true c.loop-i.auto.i c.loop-i.invariant.1 c.in_default.ensures)
-
-pub returns : goal.returns
-returns c =
-    let t = c.args.self.now in
-    let e : c.loop-i.i ≡ 0 = omega (arith, c.loop-i-test.false) in
-    subst (λ (x : Trail). GoesOn t.path t.live t.len x.path x.live 0) (sym c.loop-i.invariant.0)
-    (goes_out t.path t.live t.len (subst (Passes t.path t.live t.len) e c.loop-i.invariant.1))
