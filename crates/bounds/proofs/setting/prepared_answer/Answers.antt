@@ -7,7 +7,7 @@ pub answer_place-requires : goal.answer_place-requires
 answer_place-requires g c =
     let m = c.args.modules.now in
     let parts = later_parts m c.args.len c.args.j c.args.k c.requires.later in
-    (omega (arith, parts.1, m.few), allows_few m c.args.j c.args.k parts.2)
+    (omega (arith, parts.1, m.few), omega (arith, allows_few m c.args.j c.args.k parts.2))
 
 pub offset_bounds-scratch-answer_place : goal.offset_bounds-scratch-answer_place
 offset_bounds-scratch-answer_place g c =
