@@ -2,9 +2,7 @@
 ghost use Rattle.bound_names.specs.Bounds.{simple_floor, named_floor, simple_with, named_with, simple_of, bound_of};
 ghost use Rattle.calls.specs.Calls.{setting_one, setting};
 ghost use Rattle.std.specs.Prelude.{◌≡◌, true, false, MatchOption};
-ghost use Rattle.std.proofs.Common.{sym, subst};
-ghost use Rattle.charges.specs.Kinds.{AtMost};
-ghost use Rattle.tables.specs.Setups.{charge_of};
+ghost use Rattle.bounds.proofs.Standing.{standing};
 ghost use Rattle.bound_names.specs.Laws.{simple_lawful, named_lawful, simple_with_lawful, named_with_lawful};
 
 use bounds::bound::Bound;
@@ -90,7 +88,7 @@ impl<C: Charge> Bound<C> for Simple {
 
     ghost lawful = { λ b m sheet p s begins starts fine.
         let K = C.Charge.kind in
-        subst (λ x. AtMost K x (charge_of K sheet s m.count)) (sym (C.Charge.stands (simple_floor K b.bound m sheet p)))
+        standing K C.Charge.means C.Charge.made C.Charge.stands
         (simple_lawful K C.Charge.lawful m sheet p s begins.within starts fine b.bound) };
 
     fn floor_of(
@@ -114,7 +112,7 @@ impl<C: Charge> Bound<C> for Named {
 
     ghost lawful = { λ b m sheet p s begins starts fine.
         let K = C.Charge.kind in
-        subst (λ x. AtMost K x (charge_of K sheet s m.count)) (sym (C.Charge.stands (named_floor K b.bound m sheet p)))
+        standing K C.Charge.means C.Charge.made C.Charge.stands
         (named_lawful K C.Charge.lawful m sheet p s begins.within starts fine b.bound) };
 
     fn floor_of(
@@ -143,7 +141,7 @@ impl<C: Charge> Bound<C> for SettingOne {
 
     ghost lawful = { λ b m sheet p s begins starts fine.
         let K = C.Charge.kind in
-        subst (λ x. AtMost K x (charge_of K sheet s m.count)) (sym (C.Charge.stands (simple_floor K (simple_of b) m sheet p)))
+        standing K C.Charge.means C.Charge.made C.Charge.stands
         (simple_lawful K C.Charge.lawful m sheet p s begins.within starts fine (simple_of b)) };
 
     fn floor_of(
@@ -164,7 +162,7 @@ impl<C: Charge> SettingBound<C> for SettingOne {
 
     ghost lawful_with = { λ b m sheet p s j k begins starts fine is.
         let K = C.Charge.kind in
-        subst (λ x. AtMost K x (charge_of K sheet s m.count)) (sym (C.Charge.stands (simple_with K b m sheet p j k)))
+        standing K C.Charge.means C.Charge.made C.Charge.stands
         (simple_with_lawful K C.Charge.lawful m sheet p s begins.within starts fine j k is b) };
 
     fn answer_of(
@@ -201,7 +199,7 @@ impl<C: Charge> Bound<C> for SettingName {
 
     ghost lawful = { λ b m sheet p s begins starts fine.
         let K = C.Charge.kind in
-        subst (λ x. AtMost K x (charge_of K sheet s m.count)) (sym (C.Charge.stands (named_floor K (bound_of b) m sheet p)))
+        standing K C.Charge.means C.Charge.made C.Charge.stands
         (named_lawful K C.Charge.lawful m sheet p s begins.within starts fine (bound_of b)) };
 
     fn floor_of(
@@ -222,7 +220,7 @@ impl<C: Charge> SettingBound<C> for SettingName {
 
     ghost lawful_with = { λ b m sheet p s j k begins starts fine is.
         let K = C.Charge.kind in
-        subst (λ x. AtMost K x (charge_of K sheet s m.count)) (sym (C.Charge.stands (named_with K b m sheet p j k)))
+        standing K C.Charge.means C.Charge.made C.Charge.stands
         (named_with_lawful K C.Charge.lawful m sheet p s begins.within starts fine j k is b) };
 
     fn answer_of(

@@ -143,7 +143,8 @@ impl<C: Charge, B: SettingBound<C>> Walk<C> for Both<B> {
         len: usize,
         scratch: &mut [C],
     ) -> C {
-        self.bound.floor_at(modules, sheet, path, len, scratch)
+        let bound = &self.bound;
+        bound.floor_at(modules, sheet, path, len, scratch)
     }
 
     fn opened(
