@@ -1,3 +1,4 @@
 pub mod Tellings
 pub mod Endings
 pub mod Alike
+pub mod Idle

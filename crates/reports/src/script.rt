@@ -1,5 +1,7 @@
 // The lines of a script.
-ghost use Rattle.reports.specs.Scripts.{Follows};
+ghost use Rattle.calls.specs.declared.call.Vocabulary.TheVariants.{Building};
+ghost use Rattle.reports.specs.Scripts.{Follows, Idle, EndsNone};
+ghost use Rattle.std.specs.Prelude.{◌≡◌};
 
 use crate::opened::AnyJob;
 use crate::printed::Told;
@@ -8,14 +10,16 @@ use answers::answer::Answer;
 use calls::call::Vocabulary;
 use lines::line::{Line, read_line};
 
-/// Follows a line of a script of the vocabulary: gives the job that is open then, and what is printed. A blank line and a comment get nothing.
+/// Follows a line of a script of the vocabulary: gives the job that is open then, and what is printed. A blank line and a comment get nothing. A
+/// script of the building vocabulary opens no walk.
 pub fn follow(
     vocabulary: Vocabulary,
     job: Option<AnyJob>,
     sheet: &mut [u16],
     line: &str,
 ) -> (Option<AnyJob>, Option<Told>)
-    ensures { Follows vocabulary job sheet.old line.now result.1 result.0 sheet.new }
+    ensures follows { Follows vocabulary job sheet.old line.now result.1 result.0 sheet.new }
+    ensures idle { vocabulary ≡ Building → Idle job → Idle result.0 × EndsNone result.1 }
 {
     match read_line(vocabulary, line) {
         Line::Skipped => (job, None),
