@@ -36,6 +36,7 @@ fn read_ticket(text: &str) -> Option<Option<u32>>
     }
 }
 
+// Stays: start and ahead are read in one line each, as calls of two kinds.
 /// `start CEILING`, from the text after its first word.
 pub fn read_start(text: &str) -> Option<Call>
     ensures { Exactly (Says (codes "start" ∷ words_of text.now)) result }

@@ -83,6 +83,7 @@ pub struct Named {
     pub bound: BoundName,
 }
 
+// Stays: a match on the name, since each bound is a type of its own, and a dyn value may not be handed out.
 impl<C: Charge> Bound<C> for Simple {
     ghost floor = { λ b m sheet p. C.Charge.made (simple_floor C.Charge.kind b.bound m sheet p) };
 

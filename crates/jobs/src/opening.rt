@@ -22,6 +22,7 @@ fn fresh<C, W>(number: u32, walks: W) -> Job<C, W>
     }
 }
 
+// Stays: each of the two opens another kind of job over another kind of bound, and is one expression.
 impl<C: Charge, B: Bound<C>> Job<C, Plain<B>> {
     /// A job without modules, for plain walks alone, with any bound.
     pub fn open_plain(number: u32, bound: B) -> Job<C, Plain<B>>

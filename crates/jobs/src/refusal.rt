@@ -33,6 +33,7 @@ pub enum Refusal {
 }
 
 impl Refusal {
+    // Stays: a method and no From<Refusal>, since its contract says also in which order the calls check.
     /// The number of the refusal. Each call checks for its refusals in the order of these numbers.
     pub fn number(self) -> u8
         ensures value { result ≡ number_of self }

@@ -13,6 +13,7 @@ use calls::call::{Call, Vocabulary};
 use calls::opening::read_open;
 use words::splitting::next_word;
 
+// Stays: an enum and no Option in an Option, since its three cases have names.
 /// What a line of a script is: blank or a comment, which is skipped; no call; or a call.
 #[derive(Debug, Clone, Copy, PartialEq)]
 pub enum Line {

@@ -9,6 +9,7 @@ ghost use Rattle.reports.specs.Figures.{number_figure, rank_figure, count_said, 
 use charges::{Charge, Count, Ranked, Sum, Worst};
 use told::figure::Figure;
 
+// Stays: no From and TryFrom of figures, whose contracts could not name the kind; each kind has its own figure.
 /// A kind of charge that can be printed and read.
 pub trait Figured: Charge {
     // how a charge is printed

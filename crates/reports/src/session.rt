@@ -60,6 +60,7 @@ impl<C: Figured> Opened<C> {
     }
 }
 
+// Stays: a match on the kind in each method, since a job of each kind is a type of its own, and a dyn value may not be handed out.
 impl AnyJob {
     // A fresh job of a kind.
     fn open(number: u32, kind: KindName, walks: Walks, bound: BoundName) -> Option<AnyJob>

@@ -1,5 +1,6 @@
 // A script of random calls, whose answers were made by the independent implementation in reference/.
 #![tactic(auto)]
+// Stays: the text of a program stands again where it is run on other lines, since a crate has one standard input.
 
 use calls::call::Vocabulary;
 use reports::program::perform;

@@ -1,9 +1,10 @@
 // A script of random calls, whose answers were made by the independent implementation in reference/.
 #![tactic(auto)]
+// Stays: the text of a program stands again where it is run on other lines, since a crate has one standard input.
 
-use std::io;
 use calls::call::Vocabulary;
 use reports::program::perform;
+use std::io;
 
 fn main(rt: HostRuntime) -> io::Result<()> {
     perform(&rt, Vocabulary::Walking)
