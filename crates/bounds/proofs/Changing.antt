@@ -1,6 +1,6 @@
 -- The rows of a scratch as they are changed: one entry, one row.
-use Rattle.std.proofs.Common.{◌≡◌, ℕ, ◌+◌, ◌*◌, ◌<◌, ◌≤◌, Bool, true, false, ◌≢◌, List, length, get_or, set, sym, ap, ◌∙◌, subst, inl, inr, ⊎_elim, arith, get_or-set_other, get_or-set_same}
-use Rattle.std.proofs.lemmas.Bool.{cases_lt, both_ways}
+use Rattle.std.proofs.Common.{◌≡◌, ℕ, ◌+◌, ◌*◌, ◌<◌, ◌≤◌, Bool, true, List, get_or, sym, ap, ◌∙◌, subst, inl, inr, ⊎_elim, arith}
+use Rattle.std.proofs.lemmas.Bool.{cases_lt}
 use Rattle.bounds.specs.Answers.{RowChanged, Rows, SameButRow, SameButRows}
 
 -- the first k entries of a row are changed, and the others are as they were
@@ -8,35 +8,6 @@ pub record Changing {C : Type 0} (passes : ℕ → Bool) (gives : ℕ → C → 
   pub changed : (i : ℕ) → i < k → passes i ≡ true → (z : C) → gives i (get_or before (8 * j + i) z) (get_or xs (8 * j + i) z)
   pub rest : (i : ℕ) → k ≤ i → (z : C) → get_or xs (8 * j + i) z ≡ get_or before (8 * j + i) z
   pub others : SameButRow j before xs
-
-module _ {C : Type 0} (passes : ℕ → Bool) (gives : ℕ → C → C → Type 0) (j : ℕ) (before : List C) where
-  pub changing_more : (k : ℕ) (xs ys : List C) (x : C) → k < 8 → 8 * j + k < length xs → ys ≡ set xs (8 * j + k) x
-      → ((z : C) → gives k (get_or before (8 * j + k) z) x) → Changing passes gives j before k xs → Changing passes gives j before (k + 1) ys
-  changing_more k xs ys x small within written is c =
-      let other : (q : ℕ) (z : C) → q ≢ 8 * j + k → get_or ys q z ≡ get_or xs q z =
-      λ q z ne. ap (λ s. get_or s q z) written ∙ get_or-set_other xs (8 * j + k) q x z ne in
-      let here : (z : C) → get_or ys (8 * j + k) z ≡ x =
-      λ z. ap (λ s. get_or s (8 * j + k) z) written ∙ get_or-set_same xs (8 * j + k) x z within in
-      record {
-        changed = λ i l p z. ⊎_elim
-            (λ below. subst (gives i (get_or before (8 * j + i) z)) (sym (other (8 * j + i) z (λ e. omega arith))) (c.changed i below p z))
-            (λ above.
-            let e : k ≡ i = omega arith in
-            subst (λ n. gives n (get_or before (8 * j + n) z) (get_or ys (8 * j + n) z)) e (subst (gives k (get_or before (8 * j + k) z)) (sym (here z)) (is z)))
-            (cases_lt i k);
-        rest = λ i l z. other (8 * j + i) z (λ e. omega arith) ∙ c.rest i (omega arith) z;
-        others = λ q out z. other q z (λ e. ⊎_elim (λ l. omega arith) (λ l. omega arith) out) ∙ c.others q out z;
-      }
-
-  pub changing_skips : (k : ℕ) (xs : List C) → passes k ≡ false → Changing passes gives j before k xs → Changing passes gives j before (k + 1) xs
-  changing_skips k xs not c = record {
-    changed = λ i l p z. ⊎_elim
-        (λ below. c.changed i below p z)
-        (λ above. let e : i ≡ k = omega arith in absurd (both_ways (passes i) (ap passes e ∙ not) p))
-        (cases_lt i k);
-    rest = λ i l z. c.rest i (omega arith) z;
-    others = c.others;
-  }
 
 -- the row of module j was changed
 module _ {C V : Type 0} (means : C → V) (passes : ℕ → ℕ → Bool) (j : ℕ) (xs ys : List C) (same : SameButRow j xs ys) where

@@ -1,6 +1,5 @@
 -- One module more in the table.
-use Rattle.std.proofs.Common.{◌≡◌, ℕ, ◌+◌, ◌*◌, ◌<◌, ◌≤◌, Bool, true, ◌≢◌, List, length, get_or, set, ap, ◌∙◌, subst, inr, ⊎_elim, arith, get_or-set_other, get_or-set_same}
-use Rattle.std.proofs.lemmas.Bool.{cases_lt}
+use Rattle.std.proofs.Common.{◌≡◌, ℕ, ◌+◌, ◌*◌, ◌<◌, ◌≤◌, true, List, get_or, ap, ◌∙◌, inr, arith}
 use Rattle.charges.specs.Kinds.{Kind, Lawful}
 use Rattle.tables.specs.declared.modules.Modules.{Modules}
 use Rattle.tables.specs.Joins.{joined_from}
@@ -9,23 +8,6 @@ use Rattle.bounds.specs.Answers.{Has, Rows, SameButRow}
 use Rattle.counts.specs.Least.{least}
 use Rattle.counts.proofs.Joining.{from_same}
 use Rattle.count_table.specs.Table.{Leasts, chosen}
-
-module _ {C : Type 0} (K : Kind) (means : C → K.V) (passes : ℕ → ℕ → Bool) (value : ℕ → ℕ → K.V) (d j : ℕ) (xs : List C) (x : C) where
-  -- a least is written after the rows
-  pub rows_kept : (n : ℕ) → n ≤ 20 → Rows means passes value d n xs → Rows means passes value d n (set xs (160 + j) x)
-  rows_kept n few rows i from below k small p z =
-      let ne : 8 * i + k ≢ 160 + j = λ e. omega arith in
-      ap means (get_or-set_other xs (160 + j) (8 * i + k) x z ne) ∙ rows i from below k small p z
-
-  pub leasts_more : 160 + j < length xs → means x ≡ least K (passes j) (value j) → Leasts K means passes value d j xs → Leasts K means passes value d (j + 1) (set xs (160 + j) x)
-  leasts_more within is leasts i from below z = ⊎_elim
-      (λ lower.
-      let ne : 160 + i ≢ 160 + j = λ e. omega arith in
-      ap means (get_or-set_other xs (160 + j) (160 + i) x z ne) ∙ leasts i from lower z)
-      (λ here.
-      let e : j ≡ i = omega arith in
-      subst (λ n. means (get_or (set xs (160 + j) x) (160 + n) z) ≡ least K (passes n) (value n)) e (ap means (get_or-set_same xs (160 + j) x z within) ∙ is))
-      (cases_lt i j)
 
 -- one module more whose counts became answers
 module _ {C : Type 0} (K : Kind) (L : Lawful K) (means : C → K.V) (m : Modules) (f : ℕ → ℕ → K.V) (start : K.V) (d j : ℕ) (from_d : d ≤ j) (to_n : j < m.count)

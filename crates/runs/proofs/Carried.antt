@@ -21,9 +21,6 @@ module _ {C X : Type 0} (K : Kind) (means : C → K.V) (floor : Modules → List
     pub rest : drop i answers ≡ drop i blank
     pub long : length answers ≡ length blank
 
-  pub carried_none : Carried 0 before blank
-  carried_none = record { runs = refl; rest = refl; long = refl }
-
   pub carried_more : (i : ℕ) (now after : Stand C) (answers : List (Answer C)) (x : X) (a : Answer C) → i < length calls → i < length answers → x ≡ get_or calls i x
       → DoesBoth K means floor with-setting number space now (as_call x) a after → Carried i now answers → Carried (i + 1) after (set answers i a)
   carried_more i now after answers x a l m e d h = record {

@@ -3,7 +3,6 @@ use Rattle.std.proofs.Common.{◌≡◌, ℕ, zero, suc, ◌+◌, ◌-◌, ◌*�
 use Rattle.std.proofs.lemmas.Bool.{and_from, le-leb, lt-ltb}
 use Rattle.tables.specs.declared.modules.Modules.{Modules}
 use Rattle.tables.specs.Modules.{allows}
-use Rattle.tables.specs.Setups.{Holds}
 use Rattle.tables.specs.Sheet.{Whole}
 use Rattle.bounds.specs.Beginnings.{allows_all, begins, answerable}
 use Rattle.walks.specs.Trails.{Live, AmongLive, tree, base, place}
@@ -24,14 +23,6 @@ module _ (m : Modules) (path : List ℕ) (live : List (List ℕ)) (d : ℕ) (h :
       and_from (leb 12160 (length sheet) && leb 192 room) (begins m path d)
       (and_from (leb 12160 (length sheet)) (leb 192 room) (le-leb 12160 (length sheet) whole) (le-leb 192 room roomy))
       (and_from (ltb 0 d && leb d m.count) (allows_all m path d) (and_from (ltb 0 d) (leb d m.count) (lt-ltb 0 d some) (le-leb d m.count h.within)) (all_allowed d (omega arith)))
-
-  pub can_weigh : (sheet : List ℕ) → Whole sheet → length path ≡ 20 → Holds sheet path d
-  can_weigh sheet whole long = record {
-    whole = whole;
-    long = let w = h.within in omega (arith, m.few);
-    few = let w = h.within in omega (arith, m.few);
-    fit = h.few;
-  }
 
 -- what is live below a beginning
 pub live_below : (m : Modules) (path : List ℕ) (live : List (List ℕ)) (i : ℕ) → AmongLive m (trail path live (suc i)) → Live m (get_or live i []) (suc i)

@@ -38,9 +38,6 @@ module _ {C : Type 0} (K : Kind) (means : C → K.V) (sheet : List ℕ) (floor :
     pub steps : now.steps ≡ start.steps + made
     pub state : Advances K means floor answer sheet made start now
 
-  pub sat_none : (s : Search C) → Sat s 0 s
-  sat_none s = record { same = record { modules = refl; ahead = refl; ceiling = refl }; steps = omega arith; state = refl }
-
   pub sat_more : (s now after : Search C) (made : ℕ) → Sat s made now → SameWalk now after → after.steps ≡ now.steps + 1 → Advances K means floor answer sheet 1 now after → Sat s (made + 1) after
   sat_more s now after made h same steps stepped = record {
     same = record { modules = same.modules ∙ h.same.modules; ahead = same.ahead ∙ h.same.ahead; ceiling = same.ceiling ∙ h.same.ceiling };

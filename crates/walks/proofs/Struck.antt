@@ -5,7 +5,7 @@ use Rattle.std.proofs.lemmas.Nat.{pow_below}
 use Rattle.std.proofs.lemmas.Bool.{cases_lt, cases_eq, and_left, and_right, false≢true}
 use Rattle.charges.specs.Kinds.{Kind}
 use Rattle.walks.specs.Settings.{has}
-use Rattle.walks.specs.Opening.{under, stays, Dead, Leaves}
+use Rattle.walks.specs.Opening.{under, stays, Dead}
 use Rattle.walks.proofs.Bits.{no_bits, struck_other, struck_own}
 
 module _ (K : Kind) (limit : K.V) (answer : ℕ → ℕ → K.V) (row : List ℕ) (d n : ℕ) where
@@ -16,15 +16,6 @@ module _ (K : Kind) (limit : K.V) (answer : ℕ → ℕ → K.V) (row : List ℕ
     pub some : (j : ℕ) → d ≤ j → j < n → 1 ≤ get_or still j 0
     pub byte : (j : ℕ) → d ≤ j → j < n → get_or still j 0 < 256
     pub long : length still ≡ length row
-
-  pub struck_none : (q : ℕ) → q ≤ 8 * d → ((j : ℕ) → d ≤ j → j < n → 1 ≤ get_or row j 0) → ((j : ℕ) → d ≤ j → j < n → get_or row j 0 < 256) → Struck q row
-  struck_none q l some byte = record { done = λ j k a b c e. absurd (omega arith); todo = λ j k a b c e. refl; some = some; byte = byte; long = refl }
-
-  pub struck_at : (q q' : ℕ) (still : List ℕ) → q ≡ q' → Struck q still → Struck q' still
-  struck_at q q' still e h = subst (λ x. Struck x still) e h
-
-  pub struck_all : (q : ℕ) (still : List ℕ) → 8 * n ≤ q → Struck q still → Leaves K limit answer row d n still
-  struck_all q still l h = record { same = λ j k a b c. h.done j k a b c (omega arith); some = h.some; byte = h.byte }
 
   -- at setting k of module j
   module _ (still : List ℕ) (j k : ℕ) (from : d ≤ j) (upto : j < n) (few : k < 8) (h : Struck (8 * j + k) still) where

@@ -138,13 +138,6 @@ goes_here path live d i k long l few above small h e p = record {
   later = place_here path live i k long (omega arith) d (omega arith) p;
 }
 
-pub goes_out : (path : List ℕ) (live : List (List ℕ)) (d : ℕ) → Passes path live d 0 → GoesOn (trail path live d) (trail path live 0)
-goes_out path live d p = record {
-  next_one = λ n. sym (p.nexts n);
-  among = λ m a. live_none m path live;
-  later = let b = p.below in omega arith;
-}
-
 -- one level down
 
 pub domains_more : (passes : ℕ → ℕ → Bool) (j n : ℕ) → domains_from passes j (suc n) ≡ settings_from (passes j) 0 8 ∷ domains_from passes (suc j) n

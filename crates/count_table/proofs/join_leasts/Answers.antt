@@ -1,13 +1,8 @@
-use Rattle.std.proofs.Common.{◌≡◌, ℕ, ◌+◌, ◌<◌, length, get_or, sym, ap, ◌∙◌, arith}
+use Rattle.std.proofs.Common.{◌≡◌, ℕ, ◌+◌, ◌<◌, length, get_or, ap, ◌∙◌, arith}
 use Rattle.std.proofs.lemmas.List.{get_or_read}
 use Rattle.tables.specs.Joins.{joined_from}
-use Rattle.counts.proofs.Joining.{from_step, join_from_none}
+use Rattle.counts.proofs.Joining.{from_step}
 use Rattle.count_table.proofs.join_leasts.Goals as goal
-
-pub loop-i-init : goal.loop-i-init
-loop-i-init g c = λ z.
-    let K = g.C.Charge.kind in
-    sym (join_from_none K g.met.C.Charge.lawful (g.C.Charge.means c.args.start) (λ i. g.C.Charge.means (get_or c.args.scratch.now (160 + i) z)) c.args.from)
 
 pub loop-i-preserved : goal.loop-i-preserved
 loop-i-preserved g c = λ z.

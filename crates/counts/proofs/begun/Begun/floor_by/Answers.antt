@@ -3,16 +3,9 @@ use Rattle.tables.specs.Joins.{joined_from}
 use Rattle.tables.specs.Modules.{allows}
 use Rattle.counts.specs.Floors.{past_charge}
 use Rattle.counts.specs.Least.{least}
-use Rattle.counts.proofs.Joining.{from_step, join_from_none}
+use Rattle.counts.proofs.Joining.{from_step}
 use Rattle.counts.proofs.Taking.{taken}
 use Rattle.counts.proofs.begun.Begun.floor_by.Goals as goal
-
-pub loop-j-init : goal.loop-j-init
-loop-j-init g c = λ value counts.
-    let K = g.C.Charge.kind in
-    let b = c.args.self.now in
-    let mins : ℕ → K.V = λ j. least K (allows b.modules.now j) (value j) in
-    c.past-total.ensures ∙ sym (join_from_none K g.met.C.Charge.lawful (past_charge K b.sheet.now (take b.len b.path.now)) mins b.len)
 
 pub loop-j-preserved : goal.loop-j-preserved
 loop-j-preserved g c = λ value counts.
