@@ -1,11 +1,14 @@
 -- What is allowed, module by module.
-use Rattle.std.specs.Prelude.{◌≡◌, ℕ, zero, suc, ◌<◌, true, false, List, slice_index, refl}
-use Rattle.std.proofs.Common.{⊎_elim, ap, ◌∙◌, arith}
+use Rattle.std.specs.Prelude.{◌≡◌, ℕ, zero, suc, ◌+◌, ◌<◌, true, false, ◌&&◌, List, length, nat_le, nat_lt, slice_index, refl}
+use Rattle.std.proofs.Common.{⊎_elim, ap, ◌∙◌, add-one, arith}
 use Rattle.std.proofs.lemmas.Bool.{and_parts, and_from, and_left, and_right, cases_lt, both_ways}
 use Rattle.tables.specs.declared.modules.Modules.{Modules}
 use Rattle.tables.specs.Modules.{allows, module_of}
 use Rattle.tables.proofs.Masks.{none_past}
-use Rattle.bounds.specs.Beginnings.{allows_all}
+use Rattle.bounds.specs.Beginnings.{allows_all, begins, answerable}
+
+pub allows_all_more : (m : Modules) (row : List ℕ) (n : ℕ) → allows_all m row (n + 1) ≡ allows_all m row n && allows m n (slice_index row n)
+allows_all_more m row n = rw add-one refl
 
 pub allows_all_fails : (m : Modules) (row : List ℕ) (n i : ℕ) → i < n → allows m i (slice_index row i) ≡ false → allows_all m row n ≡ false
 allows_all_fails m row zero i l h = absurd (omega arith)
@@ -32,3 +35,8 @@ allows_each m row (suc n) i l h =
 
 pub allows_few : (m : Modules) (i k : ℕ) → allows m i k ≡ true → k < 8
 allows_few m i k h = ⊎_elim (λ l. l) (λ l. absurd (both_ways (allows m i k) (none_past m i k (omega (arith, (module_of m i).few))) h)) (cases_lt k 8)
+
+pub cannot_answer : (m : Modules) (sheet path : List ℕ) (len room i : ℕ) → i < len → allows m i (slice_index path i) ≡ false → answerable m sheet path len room ≡ false
+cannot_answer m sheet path len room i l h =
+    and_right (nat_le 12160 (length sheet) && nat_le 192 room) (begins m path len)
+    (and_right (nat_lt 0 len && nat_le len m.count) (allows_all m path len) (allows_all_fails m path len i l h))

@@ -59,6 +59,10 @@ module _ (K : Kind) (L : Lawful K) where
   pub joined_longer : (f : ℕ → K.V) (d n : ℕ) → d ≤ n → AtMost K (joined K f d) (joined K f n)
   joined_longer f d n h = subst (AtMost K (joined K f d)) (sym (split_at f d n h)) (at_most_join (joined K f d) (joined_from K f d n))
 
+  -- a turn of a loop that joins f n to what it has
+  pub joined_step : (f : ℕ → K.V) (n : ℕ) {s t x : K.V} → s ≡ joined K f n → t ≡ K.join s x → x ≡ f n → t ≡ joined K f (n + 1)
+  joined_step f n has joins is = let more = joined_more K f n in cc
+
   pub from_step : (past : K.V) (f : ℕ → K.V) (d n : ℕ) → d ≤ n → {s t x : K.V} → s ≡ K.join past (joined_from K f d n) → t ≡ K.join s x → x ≡ f n → t ≡ K.join past (joined_from K f d (n + 1))
   from_step past f d n h has joins is =
       let more = from_more f d n h in let assoc = L.associative past (joined_from K f d n) (f n) in cc

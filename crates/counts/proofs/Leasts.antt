@@ -5,6 +5,10 @@ use Rattle.charges.specs.Kinds.{Kind, Lawful, AtMost}
 use Rattle.counts.specs.Least.{least_of, lesser, least, or_zero}
 use Rattle.counts.proofs.Joining.{at_most_self}
 
+pub least_none : (K : Kind) (passes : ℕ → Bool) (f : ℕ → K.V) → least_of K passes f 0 ≡ None
+unfolding least_of
+least_none K passes f = refl
+
 pub least_takes : (K : Kind) (passes : ℕ → Bool) (f : ℕ → K.V) (k : ℕ) → passes k ≡ true → least_of K passes f (k + 1) ≡ lesser K (least_of K passes f k) (f k)
 unfolding least_of
 least_takes K passes f k h = rw add-one (cond-true (passes k) (lesser K (least_of K passes f k) (f k)) (least_of K passes f k) h)

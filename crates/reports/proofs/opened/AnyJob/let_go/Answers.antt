@@ -15,27 +15,6 @@ use Rattle.reports.specs.Walking.{Leaves}
 use Rattle.reports.proofs.Alike.{numbers_alike, ranks_alike}
 use Rattle.reports.proofs.opened.AnyJob.let_go.Goals as goal
 
-pub returns-in-ByCount : goal.returns-in-ByCount
-returns-in-ByCount c =
-    let told = c.let_go in
-    let job = c.in-ByCount.job in
-    subst (λ (j : AnyJob). Left j told.result) (sym c.in-ByCount.is)
-    (subst (λ (f : Capped 65535 → Figure). Leaves counts (λ (s : Count). capped 65535 s.number) f (modules_in job) (walk_in job) told.result) (numbers_alike 65535) told.ensures)
-
-pub returns-in-BySum : goal.returns-in-BySum
-returns-in-BySum c =
-    let told = c.let_go-in-BySum in
-    let job = c.in-BySum.job in
-    subst (λ (j : AnyJob). Left j told.result) (sym c.in-BySum.is)
-    (subst (λ (f : Capped 4294967295 → Figure). Leaves sums (λ (s : Sum). capped 4294967295 s.number) f (modules_in job) (walk_in job) told.result) (numbers_alike 4294967295) told.ensures)
-
-pub returns-in-ByWorst : goal.returns-in-ByWorst
-returns-in-ByWorst c =
-    let told = c.let_go-in-ByWorst in
-    let job = c.in-ByWorst.job in
-    subst (λ (j : AnyJob). Left j told.result) (sym c.in-ByWorst.is)
-    (subst (λ (f : Capped 65535 → Figure). Leaves worsts (λ (s : Worst). capped 65535 s.number) f (modules_in job) (walk_in job) told.result) (numbers_alike 65535) told.ensures)
-
 pub returns-in-ByRank : goal.returns-in-ByRank
 returns-in-ByRank c =
     let told = c.let_go-in-ByRank in
