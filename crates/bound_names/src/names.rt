@@ -13,6 +13,7 @@ use floors::{Directed, Forward, Past};
 use higher::Higher;
 use tables::modules::Modules;
 
+// Stays: types of their own beside SimpleBound and BoundName, so that no setting bound is made of the past bound.
 /// A setting bound that one word names.
 #[derive(Clone, Copy)]
 pub enum SettingOne {
@@ -83,7 +84,7 @@ pub struct Named {
     pub bound: BoundName,
 }
 
-// Stays: a match on the name, since each bound is a type of its own, and a dyn value may not be handed out.
+// Stays: a match on the name, which says plainly which bound it is.
 impl<C: Charge> Bound<C> for Simple {
     ghost floor = { λ b m sheet p. C.Charge.made (simple_floor C.Charge.kind b.bound m sheet p) };
 

@@ -8,7 +8,7 @@ ghost use Rattle.std.specs.Prelude.{refl};
 use crate::{Charge, Entry};
 
 /// The number of clashes; it stops at 65,535.
-// Stays: Count, Sum and Worst share a field and the laws in CappedLaws; of their four methods each writes two in its own way.
+// Stays: Count, Sum and Worst are kinds of their own with a line for each method, and share the laws in CappedLaws.
 #[derive(Clone, Copy)]
 pub struct Count {
     pub number: u16,

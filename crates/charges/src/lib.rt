@@ -50,7 +50,7 @@ pub trait Charge: Copy {
     fn joined(self, other: Self) -> Self
         ensures { means result ≡ kind.join (means self) (means other) };
 
-    // Stays: no PartialOrd, since several values may stand for one charge and `<=` would tell them apart.
+    // Stays: no PartialOrd, whose contract could not name the kind.
     fn is_at_most(self, other: Self) -> bool
         ensures { result ≡ kind.at_most (means self) (means other) };
 

@@ -14,19 +14,21 @@ use jobs::ticket::Ticket;
 use walks::outcome::Closed;
 use walks::ways::{Both, Walk};
 
-// Keeps a ticket where none is.
+// Keeps a ticket where none is, and gives its number.
 // Stays: a ticket may not be let go, so nothing can be assigned over it, and what was there is looked at.
-fn keep(held: &mut Option<Ticket>, ticket: Ticket)
+fn keep(held: &mut Option<Ticket>, ticket: Ticket) -> u32
     requires { held.old ≡ None }
-    ensures { held.new ≡ Some ticket }
+    ensures kept { held.new ≡ Some ticket }
+    ensures number { result ≡ ticket.number }
 {
+    let number = ticket.number();
     match held.replace(ticket) {
-        None => {}
+        None => number,
         Some(_) => unreachable!(),
     }
 }
 
-// Stays: each call says by itself what of the job it leaves as it was, under the names that the job's own calls have.
+// Stays: what a call leaves of the job stands in plain equations, under the names that the job's own calls have.
 impl<C: Charge, W: Walk<C>> Desk<C, W> {
     // Why a close with the ticket of another job is refused.
     fn refused(&mut self, ticket: u32, row: &mut [u8]) -> Refusal
@@ -54,9 +56,7 @@ impl<C: Charge, W: Walk<C>> Desk<C, W> {
         ensures same_walks { self.new.job.walks ≡ self.old.job.walks }
     {
         let ticket = self.job.start(ceiling)?;
-        let number = ticket.number();
-        keep(&mut self.held, ticket);
-        Ok(number)
+        Ok(keep(&mut self.held, ticket))
     }
 
     /// Sits with the ticket of this number: the one that is held here, or one of another job. Refuses 1, 11 and 12.
@@ -102,7 +102,7 @@ impl<C: Charge, W: Walk<C>> Desk<C, W> {
         match self.job.close(own, row) {
             Ok(closed) => Ok(closed),
             Err(Unclosed { refusal, ticket }) => {
-                keep(&mut self.held, ticket);
+                let _ = keep(&mut self.held, ticket);
                 Err(refusal)
             }
         }
@@ -120,8 +120,6 @@ impl<C: Charge, B: SettingBound<C>> Desk<C, Both<B>> {
         ensures same_walks { self.new.job.walks ≡ self.old.job.walks }
     {
         let ticket = self.job.start_ahead(ceiling)?;
-        let number = ticket.number();
-        keep(&mut self.held, ticket);
-        Ok(number)
+        Ok(keep(&mut self.held, ticket))
     }
 }

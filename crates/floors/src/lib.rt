@@ -71,6 +71,7 @@ impl<C: Charge, const DIRECTED: bool> Bound<C> for Counted<DIRECTED> {
             path: &path,
             len,
         };
+        // Stays: an `if` around two closures here and in `prepare`, since the check takes no const parameter inside a closure.
         if DIRECTED {
             begun.floor_by(|j, k| begun.both_counts(j, k))
         } else {

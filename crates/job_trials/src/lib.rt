@@ -1,4 +1,4 @@
-// Tests of the calls on a job: what is taken, each refusal, and which of two that fit is answered.
+// Tests of the calls on a job but those of walking: what is taken, each refusal, and which of two that fit is answered.
 #![tactic(auto)]
 
 #[cfg(test)]

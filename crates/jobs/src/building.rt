@@ -10,7 +10,7 @@ use crate::job::Job;
 use crate::refusal::Refusal;
 use tables::sheet::{ENTRIES, Place, clear, write_entry};
 
-// Stays: each call says by itself what of the job it leaves as it was, in plain equations.
+// Stays: what a call leaves of the job stands in plain equations, since the calls differ in what that is.
 impl<C, W> Job<C, W> {
     /// Adds a module of so many settings, all allowed, and clears its entries with each earlier module. Answers the
     /// module's number; refuses 1 to 4.

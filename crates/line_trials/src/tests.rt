@@ -9,6 +9,8 @@ use lines::line::{Line, read_call, read_line};
 use std::test::Fail;
 use told::figure::Figure;
 
+const BOTH: [Vocabulary; 2] = [Vocabulary::Building, Vocabulary::Walking];
+
 const CALLS: [&str; 22] = [
     "open 7 count plain past",
     "open 4294967295 sum both forward",
@@ -34,7 +36,7 @@ const CALLS: [&str; 22] = [
     "floor-with 1 2 1 2 3 4 5 6 7 8 9 10 11 12 13 14 15 16 17 18 19 20",
 ];
 
-const NO_CALLS: [&str; 34] = [
+const NO_CALLS: [&str; 33] = [
     "open 4294967296 count plain past",
     "open 7 counts plain past",
     "open 7 count neither past",
@@ -68,36 +70,28 @@ const NO_CALLS: [&str; 34] = [
     "floor-with 1 2 256",
     "floor-with 1 2 1 2 3 4 5 6 7 8 9 10 11 12 13 14 15 16 17 18 19 20 21",
     "floor-without 1 2",
-    "close",
 ];
 
 const SKIPPED: [&str; 5] = ["", "   ", "#", "# add 5", "  #add 5"];
 
 #[test]
 fn lines_are_told_apart(rt: HostRuntime) {
-    for line in CALLS {
-        assert!(rt;
-            matches!(read_line(Vocabulary::Building, line), Line::Call(_)),
-            "{}",
-            line
-        );
+    for vocabulary in BOTH {
+        for line in CALLS {
+            assert!(rt;
+                matches!(read_line(vocabulary, line), Line::Call(_)),
+                "{}",
+                line
+            );
+        }
+        for line in NO_CALLS {
+            assert_eq!(rt; read_line(vocabulary, line), Line::NoCall, "{}", line);
+        }
+        for line in SKIPPED {
+            assert_eq!(rt; read_line(vocabulary, line), Line::Skipped, "{}", line);
+        }
     }
-    for line in NO_CALLS {
-        assert_eq!(rt;
-            read_line(Vocabulary::Building, line),
-            Line::NoCall,
-            "{}",
-            line
-        );
-    }
-    for line in SKIPPED {
-        assert_eq!(rt;
-            read_line(Vocabulary::Building, line),
-            Line::Skipped,
-            "{}",
-            line
-        );
-    }
+    assert_eq!(rt; read_line(Vocabulary::Building, "close"), Line::NoCall);
 }
 
 // The row of these settings, and then zeros.
@@ -166,12 +160,9 @@ fn paths_have_their_length(rt: HostRuntime) {
         ),
     ];
     for (line, call) in table {
-        assert_eq!(rt;
-            read_call(Vocabulary::Building, line),
-            Some(call),
-            "{}",
-            line
-        );
+        for vocabulary in BOTH {
+            assert_eq!(rt; read_call(vocabulary, line), Some(call), "{}", line);
+        }
     }
 }
 
@@ -215,12 +206,9 @@ fn calls_have_their_arguments(rt: HostRuntime) {
         ),
     ];
     for (line, call) in table {
-        assert_eq!(rt;
-            read_call(Vocabulary::Building, line),
-            Some(call),
-            "{}",
-            line
-        );
+        for vocabulary in BOTH {
+            assert_eq!(rt; read_call(vocabulary, line), Some(call), "{}", line);
+        }
     }
 }
 

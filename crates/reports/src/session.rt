@@ -60,7 +60,8 @@ impl<C: Figured> Opened<C> {
     }
 }
 
-// Stays: a match on the kind in each method, since a job of each kind is a type of its own, and a dyn value may not be handed out.
+// Stays: a match on the kind in each method, since a job of each kind is a type of its own; and a scratch in each arm, since the
+// check cannot see of a kind that is not known that 192 of its charges fit in memory.
 impl AnyJob {
     // A fresh job of a kind.
     fn open(number: u32, kind: KindName, walks: Walks, bound: BoundName) -> Option<AnyJob>

@@ -94,6 +94,7 @@ pub fn close<C: Figured, W: Walk<C>>(desk: &mut Desk<C, W>, ticket: Option<u32>)
     let number = ticket.unwrap_or(desk.number());
     let modules = desk.count();
     let mut row = [0u8; 20];
+    // Stays: a match and no `map`, since the proof of `closes` did not close over the closure.
     match desk.close(number, &mut row) {
         Ok(closed) => Answer::Closed(closing(closed, row, modules)),
         Err(refusal) => Answer::Refused(refusal),

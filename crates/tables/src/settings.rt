@@ -19,7 +19,7 @@ impl Modules {
         }
     }
 
-    // Stays: `i < 20` in four clauses; an index comes from a loop or a call's argument, and a type for it would be made anew each time.
+    // Stays: `i < 20` in each clause; an index comes from a loop or from a call, and a type for it would be made anew each time.
     /// How many settings module `i` has.
     pub fn settings(&self, i: usize) -> u8
         requires { i < 20 }

@@ -5,6 +5,7 @@ ghost use Rattle.tables.specs.Setups.{Holds, forward_count, charge_of};
 use crate::sheet::{Place, entry};
 use charges::Charge;
 
+// Stays: a row is handed on with the number of its settings, since it is twenty bytes that the caller lends.
 /// What setting `k` of module `j` is charged with the settings that `row` has for the first `d` modules.
 pub fn forward<C: Charge>(sheet: &[u16], row: &[u8], d: usize, j: usize, k: u8) -> C
     requires held { Holds sheet.now row.now d }

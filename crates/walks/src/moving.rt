@@ -7,7 +7,7 @@ ghost use Rattle.theory.specs.Machine.{next, down};
 use crate::trail::Trail;
 
 // Whether setting `k` is in the mask.
-// Stays: `Modules::allows` tests a bit too, but of a mask that stands in its own record of a module.
+// Stays: one line like that of `Modules::allows`, which asks a module and not a mask; a third function would be longer than both.
 pub(crate) fn has(mask: u8, k: u8) -> bool
     requires { k < 8 }
     ensures { result ≡ has mask k }

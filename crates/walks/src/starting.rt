@@ -7,18 +7,14 @@ ghost use Rattle.theory.specs.Machine.{Walk, start};
 use crate::state::Search;
 use crate::trail::Trail;
 use charges::Charge;
+use std::array;
 use tables::modules::Modules;
 
 // The masks of the modules.
-// Stays: `array::from_fn` would have to ask of each of the twenty places whether a module has it.
 fn masks(modules: &Modules) -> [u8; 20]
     ensures { (j : ℕ) → j < modules.now.count → slice_index result j ≡ mask_of modules.now j }
 {
-    let mut row = [0; 20];
-    for j in 0..modules.count() {
-        row[j] = modules.mask(j);
-    }
-    row
+    array::from_fn(|j| modules.mask(j))
 }
 
 impl<C: Charge> Search<C> {

@@ -3,6 +3,7 @@ ghost use Rattle.std.specs.Prelude.{◌≡◌, ℕ, ◌<◌, ◌≤◌, not, len
 ghost use Rattle.walks.specs.Opening.{under, answer_at, Strikes};
 
 use crate::moving::has;
+use bounds::rows::answer_place;
 use charges::Charge;
 
 // Whether the answer for setting `k` of module `j` is not below the limit.
@@ -10,7 +11,7 @@ fn is_over<C: Charge>(answers: &[C], j: usize, k: u8, limit: C) -> bool
     requires { (160 ≤ length answers.now) × ((j < 20) × (k < 8)) }
     ensures { result ≡ not (under C.Charge.kind (C.Charge.means limit) (answer_at C.Charge.kind C.Charge.means C.Charge.made answers.now j k)) }
 {
-    limit.is_at_most(answers[8 * j + k as usize])
+    limit.is_at_most(answers[answer_place(j, k)])
 }
 
 // Strikes each live setting of a later module, from `from` on, whose answer is not below the limit. Leaves off at the

@@ -125,7 +125,7 @@ impl<C: Charge, B: Bound<C>> Walk<C> for Plain<B> {
     }
 }
 
-// Stays: `floor_at` is one call in both, by a name of its own here, and `Plain` asks less of its bound than `Both`.
+// Stays: one impl for Plain and one for Both, since Plain asks less of its bound.
 impl<C: Charge, B: SettingBound<C>> Walk<C> for Both<B> {
     ghost floor = { λ w. B.Bound.floor w.bound };
 
