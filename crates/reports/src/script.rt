@@ -10,8 +10,8 @@ use answers::answer::Answer;
 use calls::call::Vocabulary;
 use lines::line::{Line, read_line};
 
-/// Follows a line of a script of the vocabulary: gives the job that is open then, and what is printed. A blank line and a comment get nothing. A
-/// script of the building vocabulary opens no walk.
+/// Follows a line of a script of the vocabulary: gives the job that is open then, and what is printed. A blank line and a
+/// comment get nothing. A script of the building vocabulary opens no walk.
 pub fn follow(
     vocabulary: Vocabulary,
     job: Option<AnyJob>,
