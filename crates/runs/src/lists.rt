@@ -12,14 +12,10 @@ use jobs::refusal::Refusal;
 use walks::ways::Walk;
 
 // What was told, or the refusal.
-// Stays: `unwrap_or_else(Answer::Refused)` gets no proof, as its result names a type that its argument does not.
 fn answered<C>(told: Result<Answer<C>, Refusal>) -> Answer<C>
     ensures { result ≡ answered told }
 {
-    match told {
-        Ok(answer) => answer,
-        Err(refusal) => Answer::Refused(refusal),
-    }
+    told.unwrap_or_else(|refusal| Answer::Refused(refusal))
 }
 
 // As many calls as there is room for answers.
