@@ -5,7 +5,7 @@ ghost use Rattle.std.specs.Prelude.{◌≡◌, IfOk};
 
 use crate::opened::AnyJob;
 use crate::printed::Told;
-use crate::script::follow;
+use crate::script::follow_in_place;
 use crate::session::end;
 use answers::answer::Answer;
 use answers::report::report;
@@ -55,9 +55,9 @@ fn follow_lines(
     for line in lines {
         match line {
             Ok(text) => {
-                let (after, told) = follow(vocabulary, job, sheet.as_mut_slice(), text.as_str());
-                job = after;
-                done = print_told(rt, text.as_str(), told);
+                let line = text.as_str();
+                let told = follow_in_place(vocabulary, &mut job, sheet.as_mut_slice(), line);
+                done = print_told(rt, line, told);
             }
             Err(error) => done = Err(error),
         }

@@ -3,7 +3,7 @@ ghost use Rattle.calls.specs.Calls.{allowed};
 ghost use Rattle.jobs.specs.Searching.{is_open};
 ghost use Rattle.reports.specs.Sessions.{modules_in, walk_in, terms_of, OpenedFor, Fresh, Carries, GoesOn, Left, Ended, OnJob, Answers};
 ghost use Rattle.reports.specs.Walking.{Leaves};
-ghost use Rattle.std.specs.Prelude.{◌≡◌, true, false, length, replicate, MatchOption};
+ghost use Rattle.std.specs.Prelude.{◌≡◌, true, false, length, replicate, Some, None, MatchOption};
 
 use crate::figured::Figured;
 use crate::opened::{AnyJob, Opened};
@@ -34,18 +34,12 @@ impl<C: Figured> Opened<C> {
     }
 
     // Carries out a call, whatever the walks.
-    fn carry_out(self, sheet: &mut [u16], scratch: &mut [C], call: Call) -> (Opened<C>, Answer)
-        ensures { Carries C.Charge.kind C.Charge.means C.Charge.made (λ v. C.Figured.shows (C.Charge.made v)) C.Figured.says (length scratch.old) self sheet.old call result.1 result.0 sheet.new }
+    fn carry_out(&mut self, sheet: &mut [u16], scratch: &mut [C], call: Call) -> Answer
+        ensures { Carries C.Charge.kind C.Charge.means C.Charge.made (λ v. C.Figured.shows (C.Charge.made v)) C.Figured.says (length scratch.old) self.old sheet.old call result self.new sheet.new }
     {
         match self {
-            Opened::ForPlain(mut desk) => {
-                let answer = perform_call(&mut desk, sheet, scratch, call);
-                (Opened::ForPlain(desk), answer)
-            }
-            Opened::ForBoth(mut desk) => {
-                let answer = perform_call(&mut desk, sheet, scratch, call);
-                (Opened::ForBoth(desk), answer)
-            }
+            Opened::ForPlain(desk) => perform_call(desk, sheet, scratch, call),
+            Opened::ForBoth(desk) => perform_call(desk, sheet, scratch, call),
         }
     }
 
@@ -80,24 +74,20 @@ impl AnyJob {
         ensures { GoesOn self sheet.old call result.1 result.0 sheet.new }
     {
         match self {
-            AnyJob::ByCount(job) => {
-                let mut scratch = [Count::zero(); SCRATCH];
-                let (job, answer) = job.carry_out(sheet, &mut scratch, call);
+            AnyJob::ByCount(mut job) => {
+                let answer = job.carry_out(sheet, &mut [Count::zero(); SCRATCH], call);
                 (AnyJob::ByCount(job), answer)
             }
-            AnyJob::BySum(job) => {
-                let mut scratch = [Sum::zero(); SCRATCH];
-                let (job, answer) = job.carry_out(sheet, &mut scratch, call);
+            AnyJob::BySum(mut job) => {
+                let answer = job.carry_out(sheet, &mut [Sum::zero(); SCRATCH], call);
                 (AnyJob::BySum(job), answer)
             }
-            AnyJob::ByWorst(job) => {
-                let mut scratch = [Worst::zero(); SCRATCH];
-                let (job, answer) = job.carry_out(sheet, &mut scratch, call);
+            AnyJob::ByWorst(mut job) => {
+                let answer = job.carry_out(sheet, &mut [Worst::zero(); SCRATCH], call);
                 (AnyJob::ByWorst(job), answer)
             }
-            AnyJob::ByRank(job) => {
-                let mut scratch = [Ranked::zero(); SCRATCH];
-                let (job, answer) = job.carry_out(sheet, &mut scratch, call);
+            AnyJob::ByRank(mut job) => {
+                let answer = job.carry_out(sheet, &mut [Ranked::zero(); SCRATCH], call);
                 (AnyJob::ByRank(job), answer)
             }
         }
@@ -116,15 +106,28 @@ impl AnyJob {
     }
 }
 
-// A call on what is open.
-fn on_job(job: Option<AnyJob>, sheet: &mut [u16], call: Call) -> (Option<AnyJob>, Answer)
-    ensures { OnJob job sheet.old call result.1 result.0 sheet.new }
+// Keeps a job where none is.
+// Stays: nothing can be assigned over what may hold a ticket, so what was there is looked at.
+fn keep(open: &mut Option<AnyJob>, job: AnyJob)
+    requires { open.old ≡ None }
+    ensures { open.new ≡ Some job }
 {
-    let Some(job) = job else {
-        return (None, Answer::NotACall);
+    match open.replace(job) {
+        None => {}
+        Some(_) => unreachable!(),
+    }
+}
+
+// A call on what is open.
+fn on_job(job: &mut Option<AnyJob>, sheet: &mut [u16], call: Call) -> Answer
+    ensures { OnJob job.old sheet.old call result job.new sheet.new }
+{
+    let Some(open) = job.take() else {
+        return Answer::NotACall;
     };
-    let (job, answer) = job.carry_out(sheet, call);
-    (Some(job), answer)
+    let (after, answer) = open.carry_out(sheet, call);
+    keep(job, after);
+    answer
 }
 
 /// Lets go what is open, and gives what is printed of its walk, where one is open.
@@ -134,10 +137,9 @@ pub fn end(job: Option<AnyJob>) -> Option<Closing>
     job?.let_go()
 }
 
-/// Carries out a call of a script: gives what is open then, and what is printed. Open puts a fresh job in the place of what
-/// is open, whose walk is closed first, and zeros on the sheet; where nothing is open, no other line is a call.
-pub fn answer(job: Option<AnyJob>, sheet: &mut [u16], call: Call) -> (Option<AnyJob>, Told)
-    ensures { Answers job sheet.old call result.1 result.0 sheet.new }
+// Carries out a call of a script on what is open, and gives what is printed.
+pub(crate) fn answer_in_place(job: &mut Option<AnyJob>, sheet: &mut [u16], call: Call) -> Told
+    ensures { Answers job.old sheet.old call result job.new sheet.new }
 {
     match call {
         Call::Open {
@@ -147,16 +149,23 @@ pub fn answer(job: Option<AnyJob>, sheet: &mut [u16], call: Call) -> (Option<Any
             bound,
         } => match AnyJob::open(number, kind, walks, bound) {
             Some(fresh) => {
-                let closed = end(job);
+                let closed = end(job.replace(fresh));
                 sheet.fill(0);
                 let answer = Answer::Done;
-                (Some(fresh), Told { closed, answer })
+                Told { closed, answer }
             }
-            None => (job, Told::only(Answer::NotACall)),
+            None => Told::only(Answer::NotACall),
         },
-        _ => {
-            let (job, answer) = on_job(job, sheet, call);
-            (job, Told::only(answer))
-        }
+        _ => Told::only(on_job(job, sheet, call)),
     }
+}
+
+/// Carries out a call of a script: gives what is open then, and what is printed. Open puts a fresh job in the place of what
+/// is open, whose walk is closed first, and zeros on the sheet; where nothing is open, no other line is a call.
+pub fn answer(job: Option<AnyJob>, sheet: &mut [u16], call: Call) -> (Option<AnyJob>, Told)
+    ensures { Answers job sheet.old call result.1 result.0 sheet.new }
+{
+    let mut open = job;
+    let told = answer_in_place(&mut open, sheet, call);
+    (open, told)
 }

@@ -16,9 +16,9 @@ pub returns-in-ByCount : goal.returns-in-ByCount
 returns-in-ByCount c =
     let sheet = c.args.sheet.now in
     let call = c.args.call in
-    let told = c.carry_out-job in
-    let after = told.result.0 in
-    let a = told.result.1 in
+    let told = c.carry_out-answer in
+    let after = told.new.self in
+    let a = told.result in
     let sheet' = told.new.sheet in
     subst (λ (j : AnyJob). GoesOn j sheet call a (ByCount after) sheet') (sym c.in-ByCount.is)
     (after, refl, subst (λ (f : Capped 65535 → Figure). Carries counts (λ s. capped 65535 s.number) (λ v. record { number = v.number }) f count_said 192 c.in-ByCount.job sheet call a after sheet') (numbers_alike 65535) told.ensures)
@@ -27,9 +27,9 @@ pub returns-in-BySum : goal.returns-in-BySum
 returns-in-BySum c =
     let sheet = c.args.sheet.now in
     let call = c.args.call in
-    let told = c.carry_out-job-in-BySum in
-    let after = told.result.0 in
-    let a = told.result.1 in
+    let told = c.carry_out-answer-in-BySum in
+    let after = told.new.self in
+    let a = told.result in
     let sheet' = told.new.sheet in
     subst (λ (j : AnyJob). GoesOn j sheet call a (BySum after) sheet') (sym c.in-BySum.is)
     (after, refl, subst (λ (f : Capped 4294967295 → Figure). Carries sums (λ s. capped 4294967295 s.number) (λ v. record { number = v.number }) f sum_said 192 c.in-BySum.job sheet call a after sheet') (numbers_alike 4294967295) told.ensures)
@@ -38,9 +38,9 @@ pub returns-in-ByWorst : goal.returns-in-ByWorst
 returns-in-ByWorst c =
     let sheet = c.args.sheet.now in
     let call = c.args.call in
-    let told = c.carry_out-job-in-ByWorst in
-    let after = told.result.0 in
-    let a = told.result.1 in
+    let told = c.carry_out-answer-in-ByWorst in
+    let after = told.new.self in
+    let a = told.result in
     let sheet' = told.new.sheet in
     subst (λ (j : AnyJob). GoesOn j sheet call a (ByWorst after) sheet') (sym c.in-ByWorst.is)
     (after, refl, subst (λ (f : Capped 65535 → Figure). Carries worsts (λ s. capped 65535 s.number) (λ v. record { number = v.number }) f worst_said 192 c.in-ByWorst.job sheet call a after sheet') (numbers_alike 65535) told.ensures)
@@ -49,9 +49,9 @@ pub returns-in-ByRank : goal.returns-in-ByRank
 returns-in-ByRank c =
     let sheet = c.args.sheet.now in
     let call = c.args.call in
-    let told = c.carry_out-job-in-ByRank in
-    let after = told.result.0 in
-    let a = told.result.1 in
+    let told = c.carry_out-answer-in-ByRank in
+    let after = told.new.self in
+    let a = told.result in
     let sheet' = told.new.sheet in
     subst (λ (j : AnyJob). GoesOn j sheet call a (ByRank after) sheet') (sym c.in-ByRank.is)
     (after, refl, subst (λ (f : Rank → Figure). Carries ranks (λ s. rank s.forbidden s.soft) (λ v. record { forbidden = v.forbidden; soft = v.soft }) f rank_said 192 c.in-ByRank.job sheet call a after sheet') ranks_alike told.ensures)
