@@ -3,7 +3,7 @@ ghost use Rattle.calls.specs.Calls.{allowed};
 ghost use Rattle.jobs.specs.Searching.{is_open};
 ghost use Rattle.reports.specs.Sessions.{modules_in, walk_in, terms_of, OpenedFor, Fresh, Carries, GoesOn, Left, Ended, OnJob, Answers};
 ghost use Rattle.reports.specs.Walking.{Leaves};
-ghost use Rattle.std.specs.Prelude.{◌≡◌, true, false, length, replicate, Some, None, MatchOption};
+ghost use Rattle.std.specs.Prelude.{◌≡◌, true, false, length, replicate, MatchOption};
 
 use crate::figured::Figured;
 use crate::opened::{AnyJob, Opened};
@@ -69,30 +69,6 @@ impl AnyJob {
         }
     }
 
-    // Carries out a call, whatever the kind.
-    fn carry_out(self, sheet: &mut [u16], call: Call) -> (AnyJob, Answer)
-        ensures { GoesOn self sheet.old call result.1 result.0 sheet.new }
-    {
-        match self {
-            AnyJob::ByCount(mut job) => {
-                let answer = job.carry_out(sheet, &mut [Count::zero(); SCRATCH], call);
-                (AnyJob::ByCount(job), answer)
-            }
-            AnyJob::BySum(mut job) => {
-                let answer = job.carry_out(sheet, &mut [Sum::zero(); SCRATCH], call);
-                (AnyJob::BySum(job), answer)
-            }
-            AnyJob::ByWorst(mut job) => {
-                let answer = job.carry_out(sheet, &mut [Worst::zero(); SCRATCH], call);
-                (AnyJob::ByWorst(job), answer)
-            }
-            AnyJob::ByRank(mut job) => {
-                let answer = job.carry_out(sheet, &mut [Ranked::zero(); SCRATCH], call);
-                (AnyJob::ByRank(job), answer)
-            }
-        }
-    }
-
     // Lets the job go, whatever the kind.
     fn let_go(self) -> Option<Closing>
         ensures { Left self result }
@@ -106,28 +82,37 @@ impl AnyJob {
     }
 }
 
-// Keeps a job where none is.
-// Stays: nothing can be assigned over what may hold a ticket, so what was there is looked at.
-fn keep(open: &mut Option<AnyJob>, job: AnyJob)
-    requires { open.old ≡ None }
-    ensures { open.new ≡ Some job }
-{
-    match open.replace(job) {
-        None => {}
-        Some(_) => unreachable!(),
-    }
-}
-
 // A call on what is open.
+// Stays: a match on the kind, and a scratch in each arm, as above; and the job is taken and put back, since the check lends no part
+// of a type that is one of several in another such type.
 fn on_job(job: &mut Option<AnyJob>, sheet: &mut [u16], call: Call) -> Answer
     ensures { OnJob job.old sheet.old call result job.new sheet.new }
 {
     let Some(open) = job.take() else {
         return Answer::NotACall;
     };
-    let (after, answer) = open.carry_out(sheet, call);
-    keep(job, after);
-    answer
+    match open {
+        AnyJob::ByCount(mut open) => {
+            let answer = open.carry_out(sheet, &mut [Count::zero(); SCRATCH], call);
+            *job = Some(AnyJob::ByCount(open));
+            answer
+        }
+        AnyJob::BySum(mut open) => {
+            let answer = open.carry_out(sheet, &mut [Sum::zero(); SCRATCH], call);
+            *job = Some(AnyJob::BySum(open));
+            answer
+        }
+        AnyJob::ByWorst(mut open) => {
+            let answer = open.carry_out(sheet, &mut [Worst::zero(); SCRATCH], call);
+            *job = Some(AnyJob::ByWorst(open));
+            answer
+        }
+        AnyJob::ByRank(mut open) => {
+            let answer = open.carry_out(sheet, &mut [Ranked::zero(); SCRATCH], call);
+            *job = Some(AnyJob::ByRank(open));
+            answer
+        }
+    }
 }
 
 /// Lets go what is open, and gives what is printed of its walk, where one is open.
