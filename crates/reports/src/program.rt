@@ -5,6 +5,7 @@ ghost use Rattle.std.specs.Prelude.{◌≡◌, IfOk};
 
 use crate::opened::AnyJob;
 use crate::printed::Told;
+use crate::rooms::Rooms;
 use crate::script::follow_in_place;
 use crate::session::end;
 use answers::answer::Answer;
@@ -50,13 +51,20 @@ fn follow_lines(
     let mut sheet = vec![in heap; 0u16; ENTRIES]?;
     let lines = BufReader::new(heap, rt.stdin())?.lines(heap);
     let mut job = None;
+    let mut rooms = Rooms::new();
     // Stays: no `?` in this loop, since what is open may hold a ticket, and is handed on behind it.
     let mut done = Ok(());
     for line in lines {
         match line {
             Ok(text) => {
                 let line = text.as_str();
-                let told = follow_in_place(vocabulary, &mut job, sheet.as_mut_slice(), line);
+                let told = follow_in_place(
+                    vocabulary,
+                    &mut job,
+                    &mut rooms,
+                    sheet.as_mut_slice(),
+                    line,
+                );
                 done = print_told(rt, line, told);
             }
             Err(error) => done = Err(error),

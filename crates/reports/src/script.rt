@@ -5,6 +5,7 @@ ghost use Rattle.std.specs.Prelude.{◌≡◌};
 
 use crate::opened::AnyJob;
 use crate::printed::Told;
+use crate::rooms::Rooms;
 use crate::session::answer_in_place;
 use answers::answer::Answer;
 use calls::call::Vocabulary;
@@ -14,6 +15,7 @@ use lines::line::{Line, read_line};
 pub(crate) fn follow_in_place(
     vocabulary: Vocabulary,
     job: &mut Option<AnyJob>,
+    rooms: &mut Rooms,
     sheet: &mut [u16],
     line: &str,
 ) -> Option<Told>
@@ -23,7 +25,7 @@ pub(crate) fn follow_in_place(
     match read_line(vocabulary, line) {
         Line::Skipped => None,
         Line::NoCall => Some(Told::only(Answer::NotACall)),
-        Line::Call(call) => Some(answer_in_place(job, sheet, call)),
+        Line::Call(call) => Some(answer_in_place(job, rooms, sheet, call)),
     }
 }
 
@@ -39,6 +41,6 @@ pub fn follow(
     ensures idle { vocabulary ≡ Building → Idle job → Idle result.0 × EndsNone result.1 }
 {
     let mut open = job;
-    let told = follow_in_place(vocabulary, &mut open, sheet, line);
+    let told = follow_in_place(vocabulary, &mut open, &mut Rooms::new(), sheet, line);
     (open, told)
 }

@@ -8,13 +8,13 @@ ghost use Rattle.std.specs.Prelude.{◌≡◌, true, false, length, replicate, M
 use crate::figured::Figured;
 use crate::opened::{AnyJob, Opened};
 use crate::printed::Told;
+use crate::rooms::Rooms;
 use crate::walked::perform_call;
 use crate::walking::leave;
 use answers::answer::Answer;
 use bound_names::names::{Named, setting_name};
-use bounds::asking::SCRATCH;
 use calls::call::{BoundName, Call, KindName, Walks};
-use charges::{Charge, Count, Ranked, Sum, Worst};
+use charges::Charge;
 use desks::desk::Desk;
 use told::closing::Closing;
 
@@ -54,8 +54,7 @@ impl<C: Figured> Opened<C> {
     }
 }
 
-// Stays: a match on the kind in each method, since a job of each kind is a type of its own; and a scratch in each arm, since the
-// check cannot see of a kind that is not known that 192 of its charges fit in memory.
+// Stays: a match on the kind in each method, since a job of each kind is a type of its own.
 impl AnyJob {
     // A fresh job of a kind.
     fn open(number: u32, kind: KindName, walks: Walks, bound: BoundName) -> Option<AnyJob>
@@ -83,9 +82,9 @@ impl AnyJob {
 }
 
 // A call on what is open.
-// Stays: a match on the kind, and a scratch in each arm, as above; and the job is taken and put back, since the check lends no part
-// of a type that is one of several in another such type.
-fn on_job(job: &mut Option<AnyJob>, sheet: &mut [u16], call: Call) -> Answer
+// Stays: a match on the kind, as above; and a scratch for each kind, since the check cannot see of a kind that is not known that
+// 192 of its charges fit in memory. The job is taken out and put back, since the check lends no case of an enum in an enum.
+fn on_job(job: &mut Option<AnyJob>, rooms: &mut Rooms, sheet: &mut [u16], call: Call) -> Answer
     ensures { OnJob job.old sheet.old call result job.new sheet.new }
 {
     let Some(open) = job.take() else {
@@ -93,22 +92,22 @@ fn on_job(job: &mut Option<AnyJob>, sheet: &mut [u16], call: Call) -> Answer
     };
     match open {
         AnyJob::ByCount(mut open) => {
-            let answer = open.carry_out(sheet, &mut [Count::zero(); SCRATCH], call);
+            let answer = open.carry_out(sheet, &mut rooms.counts, call);
             *job = Some(AnyJob::ByCount(open));
             answer
         }
         AnyJob::BySum(mut open) => {
-            let answer = open.carry_out(sheet, &mut [Sum::zero(); SCRATCH], call);
+            let answer = open.carry_out(sheet, &mut rooms.sums, call);
             *job = Some(AnyJob::BySum(open));
             answer
         }
         AnyJob::ByWorst(mut open) => {
-            let answer = open.carry_out(sheet, &mut [Worst::zero(); SCRATCH], call);
+            let answer = open.carry_out(sheet, &mut rooms.worsts, call);
             *job = Some(AnyJob::ByWorst(open));
             answer
         }
         AnyJob::ByRank(mut open) => {
-            let answer = open.carry_out(sheet, &mut [Ranked::zero(); SCRATCH], call);
+            let answer = open.carry_out(sheet, &mut rooms.ranks, call);
             *job = Some(AnyJob::ByRank(open));
             answer
         }
@@ -123,7 +122,12 @@ pub fn end(job: Option<AnyJob>) -> Option<Closing>
 }
 
 // Carries out a call of a script on what is open, and gives what is printed.
-pub(crate) fn answer_in_place(job: &mut Option<AnyJob>, sheet: &mut [u16], call: Call) -> Told
+pub(crate) fn answer_in_place(
+    job: &mut Option<AnyJob>,
+    rooms: &mut Rooms,
+    sheet: &mut [u16],
+    call: Call,
+) -> Told
     ensures { Answers job.old sheet.old call result job.new sheet.new }
 {
     match call {
@@ -141,7 +145,7 @@ pub(crate) fn answer_in_place(job: &mut Option<AnyJob>, sheet: &mut [u16], call:
             }
             None => Told::only(Answer::NotACall),
         },
-        _ => Told::only(on_job(job, sheet, call)),
+        _ => Told::only(on_job(job, rooms, sheet, call)),
     }
 }
 
@@ -151,6 +155,6 @@ pub fn answer(job: Option<AnyJob>, sheet: &mut [u16], call: Call) -> (Option<Any
     ensures { Answers job sheet.old call result.1 result.0 sheet.new }
 {
     let mut open = job;
-    let told = answer_in_place(&mut open, sheet, call);
+    let told = answer_in_place(&mut open, &mut Rooms::new(), sheet, call);
     (open, told)
 }
