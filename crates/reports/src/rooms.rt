@@ -2,9 +2,9 @@
 use bounds::asking::SCRATCH;
 use charges::{Charge, Count, Ranked, Sum, Worst};
 
-/// A scratch for a job of each kind. What it holds before a call changes nothing, so one serves for all lines of a script.
+// A scratch for a job of each kind. What it holds before a call changes nothing, so one serves for all lines of a script.
 #[derive(Drop)]
-pub struct Rooms {
+pub(crate) struct Rooms {
     pub(crate) counts: [Count; SCRATCH],
     pub(crate) sums: [Sum; SCRATCH],
     pub(crate) worsts: [Worst; SCRATCH],
@@ -12,8 +12,8 @@ pub struct Rooms {
 }
 
 impl Rooms {
-    /// Scratch of zeros.
-    pub fn new() -> Rooms {
+    // Scratch of zeros.
+    pub(crate) fn new() -> Rooms {
         Rooms {
             counts: [Count::zero(); SCRATCH],
             sums: [Sum::zero(); SCRATCH],
