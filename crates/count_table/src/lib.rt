@@ -3,9 +3,12 @@
 #![tactic(auto)]
 
 ghost use Rattle.std.specs.Prelude.{◌≡◌, ℕ, ◌+◌, ◌≤◌, length, take, slice_index_or};
+ghost use Rattle.bounds.specs.Answers.{Rows};
 ghost use Rattle.count_table.specs.Table.{Tabled, Answered, Prepared};
 ghost use Rattle.counts.specs.Counting.{MayCount, Counts};
+ghost use Rattle.counts.specs.Floors.{counted, floor_over, only};
 ghost use Rattle.tables.specs.Joins.{joined_from};
+ghost use Rattle.tables.specs.Modules.{allows};
 
 use bounds::rows::{answer_place, change_row, change_rows};
 use charges::Charge;
@@ -78,4 +81,18 @@ pub fn prepare_by<C: Charge, F: Fn(usize, u8) -> C>(begun: &Begun, count: F, scr
         begun.len,
         scratch,
     )
+}
+
+/// Writes and gives the same by forward counts, or with `DIRECTED` by both counts joined.
+pub fn prepare_counted<C: Charge, const DIRECTED: bool>(begun: &Begun, scratch: &mut [C]) -> C
+    requires room { 192 ≤ length scratch.old }
+    ensures answers { Rows C.Charge.means (allows begun.now.modules.now) (λ j k. floor_over C.Charge.kind begun.now.modules.now begun.now.sheet.now (only begun.now.modules.now j k) (counted C.Charge.kind begun.now.modules.now begun.now.sheet.now DIRECTED (take begun.now.len begun.now.path.now)) (take begun.now.len begun.now.path.now)) begun.now.len begun.now.modules.now.count scratch.new }
+    ensures value { C.Charge.means result ≡ floor_over C.Charge.kind begun.now.modules.now begun.now.sheet.now (allows begun.now.modules.now) (counted C.Charge.kind begun.now.modules.now begun.now.sheet.now DIRECTED (take begun.now.len begun.now.path.now)) (take begun.now.len begun.now.path.now) }
+{
+    // Stays: an `if` around two closures, since the check takes no const parameter inside a closure.
+    if DIRECTED {
+        prepare_by(begun, |j, k| begun.both_counts(j, k), scratch)
+    } else {
+        prepare_by(begun, |j, k| begun.forward_count(j, k), scratch)
+    }
 }

@@ -1,6 +1,6 @@
 // A beginning on a sheet, the counts of the settings of the later modules, and the floor that is made of counts.
 ghost use Rattle.counts.specs.Counting.{MayCount, Counts};
-ghost use Rattle.counts.specs.Floors.{least_entry, directed, forward, both, floor_over};
+ghost use Rattle.counts.specs.Floors.{least_entry, directed, forward, both, counted, floor_over};
 ghost use Rattle.tables.specs.Modules.{allows};
 ghost use Rattle.tables.specs.Setups.{Holds};
 ghost use Rattle.tables.specs.Sheet.{entry_at};
@@ -80,5 +80,18 @@ impl Begun<'_> {
             total = total.joined(least(self.modules, j, &count));
         }
         total
+    }
+
+    /// The past charge joined, for each later module, with the least forward count, or with `DIRECTED` the least of both
+    /// counts joined.
+    pub fn counted_floor<C: Charge, const DIRECTED: bool>(&self) -> C
+        ensures { C.Charge.means result ≡ floor_over C.Charge.kind self.now.modules.now self.now.sheet.now (allows self.now.modules.now) (counted C.Charge.kind self.now.modules.now self.now.sheet.now DIRECTED (take self.now.len self.now.path.now)) (take self.now.len self.now.path.now) }
+    {
+        // Stays: an `if` around two closures, since the check takes no const parameter inside a closure.
+        if DIRECTED {
+            self.floor_by(|j, k| self.both_counts(j, k))
+        } else {
+            self.floor_by(|j, k| self.forward_count(j, k))
+        }
     }
 }

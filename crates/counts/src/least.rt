@@ -1,19 +1,26 @@
 // The least of what the settings of a module come to.
-ghost use Rattle.counts.specs.Least.{meant, lesser, least};
+ghost use Rattle.counts.specs.Least.{meant, lesser, or_zero, least};
 ghost use Rattle.tables.specs.Modules.{allows};
 ghost use Rattle.std.specs.Prelude.{◌≡◌, ℕ, ◌<◌, true};
 
 use charges::Charge;
 use tables::modules::Modules;
 
-// The lesser of the least so far and one more.
-fn lesser<C: Charge>(least: Option<C>, more: C) -> Option<C>
+/// The lesser of the least so far and one more.
+pub fn lesser<C: Charge>(least: Option<C>, more: C) -> Option<C>
     ensures { meant C.Charge.means result ≡ lesser C.Charge.kind (meant C.Charge.means least) (C.Charge.means more) }
 {
     match least {
         Some(least) if least.is_at_most(more) => Some(least),
         _ => Some(more),
     }
+}
+
+/// The least, and zero where there is none.
+pub fn or_zero<C: Charge>(least: Option<C>) -> C
+    ensures { C.Charge.means result ≡ or_zero C.Charge.kind (meant C.Charge.means least) }
+{
+    least.unwrap_or(C::zero())
 }
 
 /// The least of what `charge` gives for the allowed settings of module `i`, and zero where none is allowed.
@@ -28,5 +35,5 @@ pub fn least<C: Charge, F: Fn(usize, u8) -> C>(modules: &Modules, i: usize, char
             least = lesser(least, charge(i, k));
         }
     }
-    least.unwrap_or(C::zero())
+    or_zero(least)
 }

@@ -5,6 +5,7 @@ ghost use Rattle.counts.specs.Floors.{past_charge};
 ghost use Rattle.tables.specs.Setups.{Holds};
 ghost use Rattle.std.specs.Prelude.{◌≡◌, take};
 
+pub use crate::least::{lesser, or_zero};
 use charges::Charge;
 use tables::weighing::weigh;
 

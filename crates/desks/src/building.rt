@@ -64,7 +64,7 @@ impl<C: Charge, B: SettingBound<C>> Desk<C, Both<B>> {
     }
 }
 
-impl<C: Charge, W: Walk<C>> Desk<C, W> {
+impl<C, W> Desk<C, W> {
     /// Adds a module. Refuses 1 to 4.
     pub fn add(&mut self, sheet: &mut [u16], settings: u8) -> Result<u8, Refusal>
         ensures decides { Decides result (unless_walking (is_open self.old.job.current) (add_checks self.old.job.modules sheet.old settings))
@@ -107,7 +107,9 @@ impl<C: Charge, W: Walk<C>> Desk<C, W> {
     {
         self.job.narrow(i, mask)
     }
+}
 
+impl<C: Charge, W> Desk<C, W> {
     /// The charge of a row. Refuses 1 and 7.
     pub fn weigh(&self, sheet: &[u16], row: &[u8]) -> Result<C, Refusal>
         ensures { Decides result (weigh_checks self.now.job.modules sheet.now row.now)
@@ -126,7 +128,9 @@ impl<C: Charge, W: Walk<C>> Desk<C, W> {
     {
         self.job.what_if(sheet, row, i, k)
     }
+}
 
+impl<C: Charge, W: Walk<C>> Desk<C, W> {
     /// The floor of the job's bound.
     pub fn floor(&self, sheet: &[u16], path: [u8; 20], len: usize, scratch: &mut [C]) -> C
         ensures { C.Charge.means result ≡ cond (answerable self.now.job.modules sheet.now path len (length scratch.old))

@@ -12,7 +12,7 @@ impl<C: Charge, W: Walk<C>> Desk<C, W> {
     pub fn leave(self, row: &mut [u8; 20]) -> Option<Closed<C>>
         ensures { MatchOption result (self.job.current ≡ None) (λ told. MatchOption self.job.current ⊥ (λ s. Closes C.Charge.kind C.Charge.means s row.old told row.new)) }
     {
-        let Desk { mut job, held } = self;
+        let (mut job, held) = self.parts();
         let ticket = held?;
         Some(job.close(ticket, row).unwrap())
     }

@@ -9,7 +9,7 @@ ghost use Rattle.counts.proofs.Sound.{past_sound, counted_sound, counted_with_so
 use bounds::bound::Bound;
 use bounds::setting::{SettingBound, prepared_answer};
 use charges::Charge;
-use count_table::prepare_by;
+use count_table::prepare_counted;
 use counts::begun::Begun;
 use counts::past;
 use tables::modules::Modules;
@@ -71,12 +71,7 @@ impl<C: Charge, const DIRECTED: bool> Bound<C> for Counted<DIRECTED> {
             path: &path,
             len,
         };
-        // Stays: an `if` around two closures here and in `prepare`, since the check takes no const parameter inside a closure.
-        if DIRECTED {
-            begun.floor_by(|j, k| begun.both_counts(j, k))
-        } else {
-            begun.floor_by(|j, k| begun.forward_count(j, k))
-        }
+        begun.counted_floor::<C, DIRECTED>()
     }
 }
 
@@ -116,10 +111,6 @@ impl<C: Charge, const DIRECTED: bool> SettingBound<C> for Counted<DIRECTED> {
             path: &path,
             len,
         };
-        if DIRECTED {
-            prepare_by(begun, |j, k| begun.both_counts(j, k), scratch)
-        } else {
-            prepare_by(begun, |j, k| begun.forward_count(j, k), scratch)
-        }
+        prepare_counted::<C, DIRECTED>(begun, scratch)
     }
 }

@@ -1,9 +1,9 @@
 -- What each call checks, in the order of the refusals' numbers.
-use Rattle.std.specs.Prelude.{ℕ, zero, suc, ◌^◌, ◌<◌, Bool, true, not, ◌&&◌, ◌||◌, List, [], ◌∷◌, length, ◌==◌, nat_le, nat_lt, slice_index, slice_set}
+use Rattle.std.specs.Prelude.{◌≡◌, ℕ, zero, suc, ◌^◌, ◌<◌, Bool, true, false, not, ◌&&◌, ◌||◌, List, [], ◌∷◌, length, ◌==◌, nat_le, nat_lt, slice_index, slice_set}
 use Rattle.tables.specs.declared.modules.Modules.{Modules}
 use Rattle.tables.specs.Modules.{settings_of}
 use Rattle.jobs.specs.declared.refusal.Refusal.{Refusal}
-use Rattle.jobs.specs.Refusals.{number_of}
+use Rattle.jobs.specs.Refusals.{number_of, first}
 use Rattle.jobs.specs.declared.refusal.Refusal.TheVariants.{TooShort, SearchOpen, Full, SettingsOutOfRange, NoModule, NotLower, NoSetting, ClashTooHigh, WrongMask, NoModules, WrongTicket, NoSteps}
 
 -- a sheet has at least 12,160 entries, a row at least 20 bytes
@@ -93,3 +93,7 @@ pub record InNumberOrder : Type 0 where
   pub start : (walking : Bool) (m : Modules) → Rises (start_checks walking m)
   pub sit : (walking : Bool) (number : ℕ) (sheet : List ℕ) (room ticket steps : ℕ) → Rises (sit_checks walking number sheet room ticket steps)
   pub close : (walking : Bool) (number : ℕ) (row : List ℕ) (ticket : ℕ) → Rises (close_checks walking number row ticket)
+
+-- while no walk is open, a call refuses as its own checks say
+abbrev pub AtRest : Type 0
+AtRest = (checks : List (Refusal × Bool)) → first (unless_walking false checks) ≡ first checks

@@ -1,6 +1,6 @@
 // Why a call is refused.
 ghost use Rattle.std.specs.Prelude.{◌≡◌};
-ghost use Rattle.jobs.specs.Checks.{InNumberOrder};
+ghost use Rattle.jobs.specs.Checks.{InNumberOrder, AtRest};
 ghost use Rattle.jobs.specs.Refusals.{number_of};
 
 /// Why a call is refused. Each case has its number; a call answers the lowest that fits.
@@ -34,10 +34,12 @@ pub enum Refusal {
 
 impl Refusal {
     // Stays: a method and no From<Refusal>, since its contract says also in which order the calls check.
-    /// The number of the refusal. Each call checks for its refusals in the order of these numbers.
+    /// The number of the refusal. Each call checks for its refusals in the order of these numbers, and while no walk is open
+    /// as if refusal 2 were not among them.
     pub fn number(self) -> u8
         ensures value { result ≡ number_of self }
         ensures order { InNumberOrder }
+        ensures at_rest { AtRest }
     {
         self as u8
     }

@@ -1,10 +1,9 @@
 // perform: carries out a script of calls from standard input, and prints each call with its answer.
 #![tactic(auto)]
 
-use calls::call::Vocabulary;
 use reports::program::perform;
 use std::io;
 
 fn main(rt: HostRuntime) -> io::Result<()> {
-    perform(&rt, Vocabulary::Building)
+    perform(&rt)
 }

@@ -9,7 +9,6 @@ use answers::answer::Answer;
 use calls::call::Call;
 use desks::desk::Desk;
 use jobs::refusal::Refusal;
-use walks::ways::Walk;
 
 // The answer to a call that was taken, or the refusal.
 pub(crate) fn told(given: Result<Answer, Refusal>) -> Answer
@@ -26,7 +25,7 @@ fn charged<C: Figured>(given: Result<C, Refusal>) -> Answer
 }
 
 /// Carries out a call that builds or weighs, and gives its answer.
-pub fn build<C: Figured, W: Walk<C>>(desk: &mut Desk<C, W>, sheet: &mut [u16], call: Call) -> Answer
+pub fn build<C: Figured, W>(desk: &mut Desk<C, W>, sheet: &mut [u16], call: Call) -> Answer
     ensures builds { Builds C.Charge.kind (λ v. C.Figured.shows (C.Charge.made v)) (is_open desk.old.job.current) desk.old.job.modules sheet.old call result desk.new.job.modules sheet.new }
     ensures same_number { desk.new.job.number ≡ desk.old.job.number }
     ensures same_walks { desk.new.job.walks ≡ desk.old.job.walks }

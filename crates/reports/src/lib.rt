@@ -6,6 +6,7 @@ pub mod figured;
 pub mod opened;
 pub mod printed;
 pub mod program;
+mod rooms;
 pub mod script;
 pub mod scripted;
 pub mod session;

@@ -1,6 +1,12 @@
 // A script from standard input.
+ghost use Rattle.calls.specs.declared.call.Vocabulary.TheVariants.{Building};
+ghost use Rattle.reports.specs.Scripts.{Idle};
+ghost use Rattle.std.specs.Prelude.{◌≡◌, IfOk};
+
+use crate::opened::AnyJob;
 use crate::printed::Told;
-use crate::script::follow;
+use crate::rooms::Rooms;
+use crate::script::follow_in_place;
 use crate::session::end;
 use answers::answer::Answer;
 use answers::report::report;
@@ -33,21 +39,33 @@ fn print_told(rt: &HostRuntime, line: &str, told: Option<Told>) -> io::Result<()
     print(rt, line, told.answer)
 }
 
-/// Follows the lines of standard input, a script of the vocabulary, and prints each call with its answer. What is open at the
-/// end is let go, and its walk closed, also where a line cannot be read or printed.
-pub fn perform(rt: &HostRuntime, vocabulary: Vocabulary) -> io::Result<()> {
+// Follows the lines of standard input, a script of the vocabulary, and prints each call with its answer. Gives what is open
+// at the end, and whether a line could not be read or printed; an error where there is no memory.
+fn follow_lines(
+    rt: &HostRuntime,
+    vocabulary: Vocabulary,
+) -> io::Result<(Option<AnyJob>, io::Result<()>)>
+    ensures { IfOk result (λ r. vocabulary ≡ Building → Idle r.0) }
+{
     let heap = rt.alloc();
     let mut sheet = vec![in heap; 0u16; ENTRIES]?;
     let lines = BufReader::new(heap, rt.stdin())?.lines(heap);
     let mut job = None;
-    // Stays: no `?` in this loop, since what is open holds a ticket, and is let go behind it.
+    let mut rooms = Rooms::new();
+    // Stays: no `?` in this loop, since what is open may hold a ticket, and is handed on behind it.
     let mut done = Ok(());
     for line in lines {
         match line {
             Ok(text) => {
-                let (after, told) = follow(vocabulary, job, sheet.as_mut_slice(), text.as_str());
-                job = after;
-                done = print_told(rt, text.as_str(), told);
+                let line = text.as_str();
+                let told = follow_in_place(
+                    vocabulary,
+                    &mut job,
+                    &mut rooms,
+                    sheet.as_mut_slice(),
+                    line,
+                );
+                done = print_told(rt, line, told);
             }
             Err(error) => done = Err(error),
         }
@@ -55,6 +73,20 @@ pub fn perform(rt: &HostRuntime, vocabulary: Vocabulary) -> io::Result<()> {
             break;
         }
     }
+    Ok((job, done))
+}
+
+/// Follows the lines of standard input, a script that builds and weighs, and prints each call with its answer. No walk is
+/// ever open, and what is open at the end is let go like any value: only a job with no open walk may be.
+pub fn perform(rt: &HostRuntime) -> io::Result<()> {
+    let (_job, done) = follow_lines(rt, Vocabulary::Building)?;
+    done
+}
+
+/// The same for a script that walks too. What is open at the end is let go, and its walk closed, also where a line cannot be
+/// read or printed.
+pub fn perform_walks(rt: &HostRuntime) -> io::Result<()> {
+    let (job, done) = follow_lines(rt, Vocabulary::Walking)?;
     let closed = end(job);
     done?;
     print_close(rt, closed)

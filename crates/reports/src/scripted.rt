@@ -57,11 +57,11 @@ impl<C: Figured> Scripted<C> for Plain<Named> {
         j: u8,
         k: u8,
     ) -> Answer {
-        Answer::NotACall
+        Answer::NotACall // its bound need not answer for one setting
     }
 
     fn start_ahead(desk: &mut Desk<C, Plain<Named>>, ceiling: Figure) -> Answer {
-        Answer::NotACall
+        Answer::NotACall // it is opened for plain walks alone
     }
 }
 

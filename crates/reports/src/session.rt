@@ -8,13 +8,13 @@ ghost use Rattle.std.specs.Prelude.{◌≡◌, true, false, length, replicate, M
 use crate::figured::Figured;
 use crate::opened::{AnyJob, Opened};
 use crate::printed::Told;
+use crate::rooms::Rooms;
 use crate::walked::perform_call;
 use crate::walking::leave;
 use answers::answer::Answer;
 use bound_names::names::{Named, setting_name};
-use bounds::asking::SCRATCH;
 use calls::call::{BoundName, Call, KindName, Walks};
-use charges::{Charge, Count, Ranked, Sum, Worst};
+use charges::Charge;
 use desks::desk::Desk;
 use told::closing::Closing;
 
@@ -34,18 +34,12 @@ impl<C: Figured> Opened<C> {
     }
 
     // Carries out a call, whatever the walks.
-    fn carry_out(self, sheet: &mut [u16], scratch: &mut [C], call: Call) -> (Opened<C>, Answer)
-        ensures { Carries C.Charge.kind C.Charge.means C.Charge.made (λ v. C.Figured.shows (C.Charge.made v)) C.Figured.says (length scratch.old) self sheet.old call result.1 result.0 sheet.new }
+    fn carry_out(&mut self, sheet: &mut [u16], scratch: &mut [C], call: Call) -> Answer
+        ensures { Carries C.Charge.kind C.Charge.means C.Charge.made (λ v. C.Figured.shows (C.Charge.made v)) C.Figured.says (length scratch.old) self.old sheet.old call result self.new sheet.new }
     {
         match self {
-            Opened::ForPlain(mut desk) => {
-                let answer = perform_call(&mut desk, sheet, scratch, call);
-                (Opened::ForPlain(desk), answer)
-            }
-            Opened::ForBoth(mut desk) => {
-                let answer = perform_call(&mut desk, sheet, scratch, call);
-                (Opened::ForBoth(desk), answer)
-            }
+            Opened::ForPlain(desk) => perform_call(desk, sheet, scratch, call),
+            Opened::ForBoth(desk) => perform_call(desk, sheet, scratch, call),
         }
     }
 
@@ -60,8 +54,7 @@ impl<C: Figured> Opened<C> {
     }
 }
 
-// Stays: a match on the kind in each method, since a job of each kind is a type of its own; and a scratch in each arm, since the
-// check cannot see of a kind that is not known that 192 of its charges fit in memory.
+// Stays: a match on the kind in each method, since a job of each kind is a type of its own.
 impl AnyJob {
     // A fresh job of a kind.
     fn open(number: u32, kind: KindName, walks: Walks, bound: BoundName) -> Option<AnyJob>
@@ -72,34 +65,6 @@ impl AnyJob {
             KindName::Sum => Some(AnyJob::BySum(Opened::open(number, walks, bound)?)),
             KindName::Worst => Some(AnyJob::ByWorst(Opened::open(number, walks, bound)?)),
             KindName::Ranked => Some(AnyJob::ByRank(Opened::open(number, walks, bound)?)),
-        }
-    }
-
-    // Carries out a call, whatever the kind.
-    fn carry_out(self, sheet: &mut [u16], call: Call) -> (AnyJob, Answer)
-        ensures { GoesOn self sheet.old call result.1 result.0 sheet.new }
-    {
-        match self {
-            AnyJob::ByCount(job) => {
-                let mut scratch = [Count::zero(); SCRATCH];
-                let (job, answer) = job.carry_out(sheet, &mut scratch, call);
-                (AnyJob::ByCount(job), answer)
-            }
-            AnyJob::BySum(job) => {
-                let mut scratch = [Sum::zero(); SCRATCH];
-                let (job, answer) = job.carry_out(sheet, &mut scratch, call);
-                (AnyJob::BySum(job), answer)
-            }
-            AnyJob::ByWorst(job) => {
-                let mut scratch = [Worst::zero(); SCRATCH];
-                let (job, answer) = job.carry_out(sheet, &mut scratch, call);
-                (AnyJob::ByWorst(job), answer)
-            }
-            AnyJob::ByRank(job) => {
-                let mut scratch = [Ranked::zero(); SCRATCH];
-                let (job, answer) = job.carry_out(sheet, &mut scratch, call);
-                (AnyJob::ByRank(job), answer)
-            }
         }
     }
 
@@ -117,14 +82,36 @@ impl AnyJob {
 }
 
 // A call on what is open.
-fn on_job(job: Option<AnyJob>, sheet: &mut [u16], call: Call) -> (Option<AnyJob>, Answer)
-    ensures { OnJob job sheet.old call result.1 result.0 sheet.new }
+// Stays: a match on the kind, as above; and a scratch for each kind, since the check cannot see of a kind that is not known that
+// 192 of its charges fit in memory. The job is taken out and put back, since the check lends no case of an enum in an enum.
+fn on_job(job: &mut Option<AnyJob>, rooms: &mut Rooms, sheet: &mut [u16], call: Call) -> Answer
+    ensures { OnJob job.old sheet.old call result job.new sheet.new }
 {
-    let Some(job) = job else {
-        return (None, Answer::NotACall);
+    let Some(open) = job.take() else {
+        return Answer::NotACall;
     };
-    let (job, answer) = job.carry_out(sheet, call);
-    (Some(job), answer)
+    match open {
+        AnyJob::ByCount(mut open) => {
+            let answer = open.carry_out(sheet, &mut rooms.counts, call);
+            *job = Some(AnyJob::ByCount(open));
+            answer
+        }
+        AnyJob::BySum(mut open) => {
+            let answer = open.carry_out(sheet, &mut rooms.sums, call);
+            *job = Some(AnyJob::BySum(open));
+            answer
+        }
+        AnyJob::ByWorst(mut open) => {
+            let answer = open.carry_out(sheet, &mut rooms.worsts, call);
+            *job = Some(AnyJob::ByWorst(open));
+            answer
+        }
+        AnyJob::ByRank(mut open) => {
+            let answer = open.carry_out(sheet, &mut rooms.ranks, call);
+            *job = Some(AnyJob::ByRank(open));
+            answer
+        }
+    }
 }
 
 /// Lets go what is open, and gives what is printed of its walk, where one is open.
@@ -134,10 +121,14 @@ pub fn end(job: Option<AnyJob>) -> Option<Closing>
     job?.let_go()
 }
 
-/// Carries out a call of a script: gives what is open then, and what is printed. Open puts a fresh job in the place of what
-/// is open, whose walk is closed first, and zeros on the sheet; where nothing is open, no other line is a call.
-pub fn answer(job: Option<AnyJob>, sheet: &mut [u16], call: Call) -> (Option<AnyJob>, Told)
-    ensures { Answers job sheet.old call result.1 result.0 sheet.new }
+// Carries out a call of a script on what is open, and gives what is printed.
+pub(crate) fn answer_in_place(
+    job: &mut Option<AnyJob>,
+    rooms: &mut Rooms,
+    sheet: &mut [u16],
+    call: Call,
+) -> Told
+    ensures { Answers job.old sheet.old call result job.new sheet.new }
 {
     match call {
         Call::Open {
@@ -147,16 +138,23 @@ pub fn answer(job: Option<AnyJob>, sheet: &mut [u16], call: Call) -> (Option<Any
             bound,
         } => match AnyJob::open(number, kind, walks, bound) {
             Some(fresh) => {
-                let closed = end(job);
+                let closed = end(job.replace(fresh));
                 sheet.fill(0);
                 let answer = Answer::Done;
-                (Some(fresh), Told { closed, answer })
+                Told { closed, answer }
             }
-            None => (job, Told::only(Answer::NotACall)),
+            None => Told::only(Answer::NotACall),
         },
-        _ => {
-            let (job, answer) = on_job(job, sheet, call);
-            (job, Told::only(answer))
-        }
+        _ => Told::only(on_job(job, rooms, sheet, call)),
     }
+}
+
+/// Carries out a call of a script: gives what is open then, and what is printed. Open puts a fresh job in the place of what
+/// is open, whose walk is closed first, and zeros on the sheet; where nothing is open, no other line is a call.
+pub fn answer(job: Option<AnyJob>, sheet: &mut [u16], call: Call) -> (Option<AnyJob>, Told)
+    ensures { Answers job sheet.old call result.1 result.0 sheet.new }
+{
+    let mut open = job;
+    let told = answer_in_place(&mut open, &mut Rooms::new(), sheet, call);
+    (open, told)
 }

@@ -1,7 +1,7 @@
 // The calls of walking, carried out on a job.
 ghost use Rattle.std.specs.Prelude.{◌≡◌, ◌≤◌, true, false, length};
 ghost use Rattle.walks.specs.Outcomes.{fixed};
-ghost use Rattle.reports.specs.Walking.{setup_told, StartsTold, SitsTold, ClosesTold, Leaves};
+ghost use Rattle.reports.specs.Walking.{brought, setup_told, StartsTold, SitsTold, ClosesTold, Leaves};
 
 use crate::calling::told;
 use crate::figured::Figured;
@@ -46,6 +46,13 @@ pub fn start_ahead<C: Figured, B: SettingBound<C>>(
     }
 }
 
+// The number of the ticket that is brought: the one that is written, or else the job's own.
+fn bring(own: u32, ticket: Option<u32>) -> u32
+    ensures { result ≡ brought own ticket }
+{
+    ticket.unwrap_or(own)
+}
+
 /// Sits so many steps with the ticket that is brought.
 pub fn sit<C: Figured, W: Walk<C>>(
     desk: &mut Desk<C, W>,
@@ -59,7 +66,7 @@ pub fn sit<C: Figured, W: Walk<C>>(
     ensures same_number { desk.new.job.number ≡ desk.old.job.number }
     ensures same_walks { desk.new.job.walks ≡ desk.old.job.walks }
 {
-    let number = ticket.unwrap_or(desk.number());
+    let number = bring(desk.number(), ticket);
     let given = desk.sit(sheet, number, steps, scratch);
     told(given.map(|sat| Answer::Sat(sat)))
 }
@@ -91,7 +98,7 @@ pub fn close<C: Figured, W: Walk<C>>(desk: &mut Desk<C, W>, ticket: Option<u32>)
     ensures same_number { desk.new.job.number ≡ desk.old.job.number }
     ensures same_walks { desk.new.job.walks ≡ desk.old.job.walks }
 {
-    let number = ticket.unwrap_or(desk.number());
+    let number = bring(desk.number(), ticket);
     let modules = desk.count();
     let mut row = [0u8; 20];
     // Stays: a match and no `map`, since the proof of `closes` did not close over the closure.

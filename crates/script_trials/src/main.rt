@@ -2,10 +2,9 @@
 #![tactic(auto)]
 // Stays: the text of a program stands again where it is run on other lines, since a crate has one standard input.
 
-use calls::call::Vocabulary;
 use reports::program::perform;
 use std::io;
 
 fn main(rt: HostRuntime) -> io::Result<()> {
-    perform(&rt, Vocabulary::Building)
+    perform(&rt)
 }

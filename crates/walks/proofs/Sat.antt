@@ -27,10 +27,10 @@ module _ {V : Type 0} (P : Problem V) (W : Walk V) where
 
 -- a sitting so far
 module _ {C : Type 0} (K : Kind) (means : C → K.V) (sheet : List ℕ) (floor : Modules → List ℕ → List ℕ → C) (answer : Modules → List ℕ → List ℕ → ℕ → ℕ → C) where
-  abbrev sought : Search C → Problem K.V
+  abbrev pub sought : Search C → Problem K.V
   sought s = problem K s.modules sheet (means s.ceiling)
 
-  abbrev walked : Search C → Walk K.V
+  abbrev pub walked : Search C → Walk K.V
   walked s = by (λ p. means (floor s.modules sheet p)) (λ p j k. means (answer s.modules sheet p j k)) s.ahead
 
   pub record Sat (start : Search C) (made : ℕ) (now : Search C) : Type 0 where

@@ -8,7 +8,7 @@ use Rattle.words.specs.Rows.{Fills, Row}
 
 -- the first n words of ws are in the row, the others are rest, and the row goes on with zeros
 pub record Sofar (ws rest : List Word) (row : List ℕ) (n : ℕ) : Type 0 where
-  pub few : length ws ≤ 20
+  pub few : n ≤ 20
   pub count : length ws ≡ n + length rest
   pub long : length row ≡ 20
   pub zeros : Fills [] (drop n row)
@@ -19,31 +19,23 @@ pub record Sofar (ws rest : List Word) (row : List ℕ) (n : ℕ) : Type 0 where
 pub no_row : (ws : List Word) → ((p : List ℕ × ℕ) → Row ws p.0 × (length ws ≡ p.1) → ⊥) → (row : List ℕ) → Row ws row → ⊥
 no_row ws none row h = none (row, length ws) (h, refl)
 
--- the words of a row are twenty at most
-fill_fit : (ws : List Word) (row : List ℕ) → Fills ws row → length ws ≤ length row
-fill_fit [] row h = omega arith
-fill_fit (w ∷ ws) [] h = absurd h
-fill_fit (w ∷ ws) (x ∷ row) h = omega (arith, fill_fit ws row h.1)
-
-pub too_many : (ws : List Word) → 20 < length ws → (row : List ℕ) → Row ws row → ⊥
-too_many ws more row h = omega (arith, fill_fit ws row h.1, h.0)
-
 module _ {all rest : List Word} {w : Word} {more : List Word} {row : List ℕ} {n : ℕ} (old : Sofar all rest row n) (next : rest ≡ w ∷ more) where
   left : (r : List ℕ) → Fills all r → Fills (w ∷ more) (drop n r)
   left r h = subst (λ l. Fills l (drop n r)) next (old.back r h)
 
-  -- one number more has its place
-  room : n < 20
-  room = omega (arith, old.few, old.count, ap length next)
+  pub too_many : n ≡ 20 → (r : List ℕ) → Row all r → ⊥
+  too_many full r h =
+      let none : drop n r ≡ [] = drop_all n r (omega (arith, h.0)) in
+      subst (Fills (w ∷ more)) none (left r h.1)
 
   split : (r : List ℕ) → Fills all r → n < length r → Number 255 w (get_or r n 0) × Fills more (drop (n + 1) r)
   split r h inside = subst (Fills (w ∷ more)) (drop_more r n 0 inside) (left r h)
 
-  pub one_more : (x : ℕ) → Number 255 w x → Sofar all more (set row n x) (n + 1)
-  one_more x said =
-      let inside : n < length row = omega (arith, old.long, room) in
+  pub one_more : (x : ℕ) → n < 20 → Number 255 w x → Sofar all more (set row n x) (n + 1)
+  one_more x room said =
+      let inside : n < length row = omega (arith, old.long) in
       record {
-        few = old.few;
+        few = omega arith;
         count = omega (arith, old.count, ap length next);
         long = length-set row n x ∙ old.long;
         zeros = subst (Fills []) (sym (drop-set-lt (n + 1) row n x (omega arith))) (subst (Fills []) (drop_more row n 0 inside) old.zeros).1;

@@ -11,13 +11,14 @@ use crate::values::FromWord;
 pub fn read_path(text: &str) -> Option<([u8; 20], u8)>
     ensures { Exactly (λ p. Row (words_of text.now) p.0 × (length (words_of text.now) ≡ p.1)) result }
 {
-    let len = Words(text).count();
-    if len > 20 {
-        return None;
-    }
     let mut row = [0; 20];
+    let mut len = 0;
     for (i, word) in Words(text).enumerate() {
+        if i == 20 {
+            return None;
+        }
         row[i] = u8::from_word(word)?;
+        len = i + 1;
     }
     Some((row, len as u8))
 }

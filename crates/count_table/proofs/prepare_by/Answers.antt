@@ -1,4 +1,4 @@
-use Rattle.std.proofs.Common.{◌≡◌, ℕ, length, take, sym, ap, ◌∙◌}
+use Rattle.std.proofs.Common.{◌≡◌, ℕ, length, take, sym, ap, ◌∙◌, rules}
 use Rattle.tables.specs.Joins.{joined_from}
 use Rattle.tables.specs.Modules.{allows}
 use Rattle.count_table.specs.Table.{chosen}
@@ -21,7 +21,7 @@ returns g c =
     let past = past_charge K sheet p in
     let long : length p ≡ d = taken K L sheet path d b.held.long in
     λ f counts.
-    let told = c.write_answers.ensures f (c.write_table.ensures f counts) in
+    let told = c.write_answers.ensures f (c.write_table.ensures f (λ j k from below small r gave. counts j k from below small r (search rules))) in
     let mins : ℕ → K.V = λ i. least K (allows m i) (f i) in
     record {
       value =

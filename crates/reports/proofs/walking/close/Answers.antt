@@ -17,7 +17,7 @@ returns-in-Ok g c =
     let closed = c.in-Ok.closed in
     let x = c.closing.result in
     let checks = λ (t : ℕ). close_checks (is_open job.current) job.number blank_row t in
-    let bring : c.unwrap_or-number.result ≡ brought job.number c.args.ticket = c.unwrap_or-number.ensures ∙ ap (λ n. brought n c.args.ticket) c.number.ensures in
+    let bring : c.bring-number.result ≡ brought job.number c.args.ticket = c.bring-number.ensures ∙ ap (λ n. brought n c.args.ticket) c.number.ensures in
     let setup : x.setup ≡ setup_told (fixed closed.outcome).with_setup row job.modules.count = c.closing.ensures.setup ∙ ap (setup_told (fixed closed.outcome).with_setup row) c.count-modules.ensures in
     record {
       closes = accepted (checks (brought job.number c.args.ticket)) (answer.Closed x) _ _

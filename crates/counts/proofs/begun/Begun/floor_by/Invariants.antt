@@ -10,5 +10,5 @@ abbrev pub invariant-loop-j : goal.invariant-loop-j
 invariant-loop-j g l =
     let K = g.C.Charge.kind in
     let m = l.self.modules.now in
-    (value : ℕ → ℕ → K.V) → Counts g.C.Charge.means (goal.F-post g l.count) value l.self.len m.count
+    (value : ℕ → ℕ → K.V) → Counts g.C.Charge.means (goal.F-post g l.fn.count) value l.self.len m.count
     → g.C.Charge.means l.total ≡ K.join (past_charge K l.self.sheet.now (take l.self.len l.self.path.now)) (joined_from K (λ j. least K (allows m j) (value j)) l.self.len l.j)

@@ -7,7 +7,7 @@ use Rattle.reports.proofs.opened.Opened.carry_out.Goals as goal
 
 pub returns-in-ForPlain : goal.returns-in-ForPlain
 returns-in-ForPlain g c =
-    let told = c.perform_call-answer in
+    let told = c.perform_call in
     subst
     (λ (o : Opened g.row.C.Denot). Carries g.C.Charge.kind g.C.Charge.means g.C.Charge.made (λ v. g.C.Figured.shows (g.C.Charge.made v)) g.C.Figured.says (length c.args.scratch.now) o c.args.sheet.now c.args.call told.result (ForPlain told.new.desk) told.new.sheet)
     (sym c.in-ForPlain.is)
@@ -18,7 +18,7 @@ returns-in-ForPlain g c =
 
 pub returns-in-ForBoth : goal.returns-in-ForBoth
 returns-in-ForBoth g c =
-    let told = c.perform_call-answer-in-ForBoth in
+    let told = c.perform_call-in-ForBoth in
     subst
     (λ (o : Opened g.row.C.Denot). Carries g.C.Charge.kind g.C.Charge.means g.C.Charge.made (λ v. g.C.Figured.shows (g.C.Charge.made v)) g.C.Figured.says (length c.args.scratch.now) o c.args.sheet.now c.args.call told.result (ForBoth told.new.desk) told.new.sheet)
     (sym c.in-ForBoth.is)
